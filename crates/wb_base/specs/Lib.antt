@@ -1,0 +1,3 @@
+pub mod ConsoleLine
+pub mod WorkResult
+pub mod FaultAt
