@@ -1,0 +1,2 @@
+mod MemFiles
+mod Written

@@ -1,0 +1,9 @@
+pub mod Counts
+pub mod Held
+pub mod Files
+pub mod PortState
+pub mod InMemory
+pub mod MemSink
+pub mod MemShelf
+pub mod DirShelf
+pub mod StdSink

@@ -1,0 +1,25 @@
+//! What the program reaches outside itself: a sink for text, a shelf of files, and ports for the files of a
+//! Pascal run, each by a trait with meanings; the ones in memory, and the ones over real files and streams.
+#![tactic(auto)]
+
+mod answers;
+mod counting;
+mod dir_shelf;
+mod mem_shelf;
+mod mem_sink;
+mod port;
+mod shelf;
+mod sink;
+mod std_sink;
+#[cfg(test)]
+mod tests;
+mod writing;
+
+pub use answers::{Failed, PortErr};
+pub use dir_shelf::DirShelf;
+pub use mem_shelf::MemShelf;
+pub use mem_sink::MemSink;
+pub use port::{Mode, Port};
+pub use shelf::{FailedCall, LOAD_LIMIT, Shelf, ShelfCall};
+pub use sink::Sink;
+pub use std_sink::StdSink;

@@ -1,0 +1,111 @@
+//! What no clause says: that each call succeeds with ample memory, and what real files and streams do.
+ghost use Rattle.std.specs.Prelude.{◌≡◌, false};
+
+use crate::*;
+use std::test::Fail;
+use std::{fs, io};
+
+#[test]
+fn a_sink_in_memory_fails_where_it_is_told_to(rt: HostRuntime) -> Result<(), Fail> {
+    let mut sink = MemSink::new(rt.alloc(), 5, &[2])?;
+    assert_eq!(rt; sink.write(b"abc"), Ok(()));
+    assert_eq!(rt; sink.write(b"d"), Err(Failed));
+    assert_eq!(rt; sink.bytes(), b"abc".as_slice());
+    assert_eq!(rt; sink.write(b"defg"), Err(Failed));
+    assert_eq!(rt; sink.bytes(), b"abcde".as_slice());
+    Ok(())
+}
+
+#[test]
+fn a_shelf_in_memory_keeps_its_files(rt: HostRuntime) -> Result<(), Fail> {
+    let alloc = rt.alloc();
+    let mut shelf = MemShelf::new(alloc, 4, &[2, 6])?;
+    shelf.put_file(b"a", b"old")?;
+    assert_eq!(rt; shelf.load(alloc, b"a")?.bytes(), b"old".as_slice());
+    assert_eq!(rt; shelf.create(b"a"), Err(PortErr::Failed));
+    assert_eq!(rt; shelf.file(b"a"), Some(b"old".as_slice()));
+    shelf.create(b"a")?;
+    assert_eq!(rt; shelf.file(b"a"), Some(b"".as_slice()));
+    assert_eq!(rt; shelf.write(b"new"), Ok(()));
+    assert_eq!(rt; shelf.write(b"er"), Err(Failed));
+    assert_eq!(rt; shelf.file(b"a"), Some(b"newe".as_slice()));
+    assert_eq!(rt; shelf.close(), Err(Failed));
+    Ok(())
+}
+
+#[test]
+fn a_missing_file_fails(rt: HostRuntime) -> Result<(), Fail> {
+    let alloc = rt.alloc();
+    let mut shelf = MemShelf::new(alloc, 4, &[])?;
+    assert!(rt; matches!(shelf.load(alloc, b"b"), Err(PortErr::Failed)));
+    assert_eq!(rt; shelf.file(b"b"), None);
+    Ok(())
+}
+
+// Writes a file, and loads it back.
+fn written_back<S: Shelf>(shelf: &mut S, alloc: std::alloc::Global) -> Result<bool, PortErr>
+    requires { S.is_open shelf.old ≡ false }
+{
+    shelf.create(b"t.p")?;
+    shelf.write(b"{1:}program t;")?;
+    shelf.write(b"")?;
+    shelf.write(b"begin end.{:1}\n")?;
+    shelf.close()?;
+    Ok(shelf.load(alloc, b"t.p")?.bytes() == b"{1:}program t;begin end.{:1}\n".as_slice())
+}
+
+#[test]
+fn a_shelf_over_files_loads_what_it_wrote(rt: HostRuntime) -> Result<(), Fail> {
+    let alloc = rt.alloc();
+    let mut shelf = DirShelf::new(&rt);
+    assert_eq!(rt; written_back(&mut shelf, alloc), Ok(true));
+    fs::remove_file(&rt, "t.p")?;
+    assert!(rt; matches!(shelf.load(alloc, b"t.p"), Err(PortErr::Failed)));
+    assert_eq!(rt;
+        written_back(&mut MemShelf::new(alloc, 100, &[])?, alloc),
+        Ok(true)
+    );
+    Ok(())
+}
+
+#[test]
+fn a_file_that_cannot_be_made_fails(rt: HostRuntime) -> Result<(), Fail> {
+    let mut shelf = DirShelf::new(&rt);
+    assert_eq!(rt; shelf.create(b"none/t.p"), Err(PortErr::Failed));
+    let mut other = DirShelf::new(&rt);
+    assert_eq!(rt; other.create(b"\xff"), Err(PortErr::Failed));
+    Ok(())
+}
+
+#[test]
+fn a_file_in_a_locked_folder_fails(rt: HostRuntime) -> Result<(), Fail> {
+    fs::create_dir(&rt, "locked")?;
+    let mut permissions = fs::metadata(&rt, "locked")?.permissions();
+    permissions.set_readonly(true);
+    fs::set_permissions(&rt, "locked", permissions)?;
+    // Where the test may write there all the same, as an administrator may, so may the shelf.
+    let refused = fs::create(&rt, "locked/t.p").is_err();
+    let created = DirShelf::new(&rt).create(b"locked/t.p");
+    assert_eq!(rt;
+        created,
+        if refused {
+            Err(PortErr::Failed)
+        } else {
+            Ok(())
+        }
+    );
+    fs::remove_dir_all(&rt, "locked")?;
+    Ok(())
+}
+
+#[test]
+fn a_stream_is_a_sink(rt: HostRuntime) -> Result<(), Fail> {
+    let mut file = StdSink::new(fs::create(&rt, "t.out")?);
+    assert_eq!(rt; file.write(b"a line\n"), Ok(()));
+    assert_eq!(rt; fs::read(&rt, "t.out")?.as_slice(), b"a line\n".as_slice());
+    fs::remove_file(&rt, "t.out")?;
+    assert_eq!(rt; StdSink::new(io::writer(&rt)).write(b"a line\n"), Ok(()));
+    let mut closed = StdSink::new(fs::open(&rt, ".")?);
+    assert_eq!(rt; closed.write(b"a line\n"), Err(Failed));
+    Ok(())
+}
