@@ -1,0 +1,10 @@
+pub mod Applied
+pub mod Behind
+pub mod BlocksSoFar
+pub mod FaultLemmas
+pub mod Found
+pub mod Joined
+pub mod Merged
+pub mod Parsed
+pub mod Parts
+pub mod Pieces
