@@ -1,0 +1,5 @@
+mod FileSteps
+mod Tangles
+mod EarlySteps
+mod RawLines
+mod Endings

@@ -1,0 +1,10 @@
+pub mod CommandLine
+pub mod Program
+pub mod Raw
+pub mod EarlyForm
+pub mod EarlyReader
+pub mod EarlyRows
+pub mod Tangled
+pub mod Stop
+pub mod Tangling
+pub mod Writing
