@@ -1,6 +1,5 @@
 //! The merge of a web with a change file.
-ghost use Rattle.std.specs.Prelude.{◌≡◌, ◌+◌, ◌-◌, ◌≤◌, IfOk, Ok, Err, List, ◌++◌, All, length, drop, slice_range};
-ghost use Rattle.std.specs.Prelude.{Result};
+ghost use Rattle.std.specs.Prelude.{◌≡◌, ◌+◌, ◌-◌, ◌≤◌, IfOk, Result, Ok, Err, List, ◌++◌, All, length, drop, slice_range};
 ghost use Rattle.std.specs.List.{position_or_len};
 ghost use Rattle.std.specs.Str.{bytes_eq};
 ghost use Rattle.wb_base.specs.declared.faults.Fault.{Fault};

@@ -14,8 +14,8 @@ pub record LeavesAll (answer : Answer) (before now : Files) : Type 0 where
   pub silent : answer.console ≡ []
   pub files : Leaves answer.output before now
 
--- the work on the web and the change file of these names ended so: with all files of its answer, with the answer's fault and nothing
--- written, by a failed call that is the last, or for want of memory and with nothing written
+-- the work on the web and the change file of these names ended so: with all files of its answer, with the answer's fault
+-- and nothing written, by a failed call that is the last, or for want of memory and with nothing written
 abbrev pub TanglesTo : List ℕ → Option (List ℕ) → Result (Unit {0}) Stop → Option FailedCall → Files → Files → Type 0
 TanglesTo web change (Ok done) last before now =
     IsSomeAnd (answer_of (tangle web change) before) (λ answer. LeavesAll answer before now)

@@ -27,9 +27,10 @@ const USAGE_LINE: &[u8] =
 /// status for the program to end with: 0 where the work was done, 1 where an input has a fault, 2 where the command
 /// line is faulty, 3 where a call on the shelf or the console failed, 4 where no memory was found.
 ///
-/// `tangle WEB [CH]` reads the web and the change file from the shelf and leaves the Pascal text there. A fault is one line on the console, and
-/// leaves every file as it was; a faulty command line is answered by the usage line. Nothing else is printed. No file
-/// is open afterwards, but after status 3 one may be. The ports are left as they were. This project's own.
+/// `tangle WEB [CH]` reads the web and the change file from the shelf and leaves the Pascal text there. A fault is one
+/// line on the console, and leaves every file as it was; a faulty command line is answered by the usage line. Nothing
+/// else is printed. No file is open afterwards, but after status 3 one may be. The ports are left as they were. This
+/// project's own.
 pub fn run<S: Shelf, K: Sink>(
     alloc: Global,
     words: &Words,
