@@ -1,3 +1,6 @@
+pub mod Bytes
 pub mod ConsoleLine
-pub mod WorkResult
 pub mod FaultAt
+pub mod Pieces
+pub mod Steps
+pub mod WorkResult

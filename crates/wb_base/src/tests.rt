@@ -1,36 +1,69 @@
 //! What no clause shows: that the calls find memory, and the texts of faults beside values worked out by hand.
-use crate::{Fault, FileTag, Text, Words};
+use crate::faults::{
+    C_STRUCTURE, CHANGE_NOT_FOUND, LIMIT_FILE_BYTES, LIMIT_NAMES, LIMIT_PASSED, LIMIT_STRINGS,
+    LINE_TOO_LONG, NESTING_PAST_LIMIT, NOT_BUILT_YET, PASCAL_LEFT_OUT, SETS, STRAY_END, TOO_LARGE,
+};
+use crate::{Fault, FileTag, Place, Text, Words};
 use std::test::Fail;
+
+// A fault of the web by its number and kind, and the line that reports it.
+#[derive(Clone, Copy)]
+struct Row {
+    fault: (u16, u8),
+    line: u32,
+    text: &'static [u8],
+}
 
 #[test]
 fn reports_faults(rt: HostRuntime) -> Result<(), Fail> {
-    let rows: [(u16, u32, u8, &[u8]); 11] = [
-        (1, 7, 0, b"! t.web:7: line too long (F1)"),
-        (6, 1, 0, b"! t.web:1: change block not found (F6)"),
-        (13, 3, 0, b"! t.web:3: stray @> or } (F13)"),
-        (28, 0, 1, b"! t.web:0: limit passed: file bytes (F28)"),
-        (28, 65536, 6, b"! t.web:65536: limit passed: sections (F28)"),
-        (28, 0, 7, b"! t.web:0: limit passed:  (F28)"),
-        (
-            53,
-            2,
-            10,
-            b"! t.web:2: left out: string outside write (F53)",
-        ),
-        (53, 2, 12, b"! t.web:2: left out: nesting (F53)"),
-        (72, 1, 0, b"! t.web:1: structure (F72)"),
-        (90, 16, 0, b"! t.web:16: not built yet (F90)"),
-        (44, 1, 1, b"! t.web:1:  (F44)"),
+    #[rattlefmt::skip]
+    let rows = [
+        Row { fault: (LINE_TOO_LONG, 0), line: 7, text: b"! t.web:7: line too long (F1)" },
+        Row { fault: (CHANGE_NOT_FOUND, 0), line: 1, text: b"! t.web:1: change block not found (F6)" },
+        Row { fault: (STRAY_END, 0), line: 3, text: b"! t.web:3: stray @> or } (F13)" },
+        Row { fault: (LIMIT_PASSED, LIMIT_FILE_BYTES), line: 0, text: b"! t.web:0: limit passed: file bytes (F28)" },
+        Row { fault: (LIMIT_PASSED, LIMIT_STRINGS), line: 65536, text: b"! t.web:65536: limit passed: strings (F28)" },
+        Row { fault: (LIMIT_PASSED, 7), line: 0, text: b"! t.web:0: limit passed:  (F28)" },
+        Row { fault: (PASCAL_LEFT_OUT, SETS), line: 2, text: b"! t.web:2: left out: set (F53)" },
+        Row { fault: (PASCAL_LEFT_OUT, NESTING_PAST_LIMIT), line: 2, text: b"! t.web:2: left out: nesting (F53)" },
+        Row { fault: (C_STRUCTURE, 0), line: 1, text: b"! t.web:1: structure (F72)" },
+        Row { fault: (NOT_BUILT_YET, 0), line: 16, text: b"! t.web:16: not built yet (F90)" },
+        // no such fault
+        Row { fault: (44, 1), line: 1, text: b"! t.web:1:  (F44)" },
     ];
-    for (code, line, which, text) in rows {
+    for (index, row) in rows.iter().enumerate() {
+        let (code, which) = row.fault;
         let fault = Fault {
             code,
             file: FileTag::Web,
-            line,
+            line: row.line,
             which,
         };
-        assert_eq!(rt; fault.text(rt.alloc(), b"t.web")?.bytes(), text);
+        let text = fault.text(rt.alloc(), b"t.web")?;
+        assert_eq!(rt; (index, text.bytes()), (index, row.text));
     }
+    Ok(())
+}
+
+#[test]
+fn makes_faults(rt: HostRuntime) -> Result<(), Fail> {
+    let place = Place {
+        file: FileTag::Code(3),
+        line: 5,
+    };
+    let fault = Fault {
+        code: TOO_LARGE,
+        file: FileTag::Code(3),
+        line: 5,
+        which: 0,
+    };
+    assert_eq!(rt; Fault::at(TOO_LARGE, place), fault);
+    let passed = Fault {
+        code: LIMIT_PASSED,
+        which: LIMIT_NAMES,
+        ..fault
+    };
+    assert_eq!(rt; Fault::limit(LIMIT_NAMES, place), passed);
     Ok(())
 }
 
