@@ -1,2 +1,5 @@
-mod MemFiles
-mod Written
+pub mod CountsLemmas
+pub mod FilesLemmas
+pub mod HeldLemmas
+mod MemShelfLemmas
+mod WritingLemmas

@@ -1,11 +1,16 @@
--- How an object of the outside counts its failed calls.
-use Rattle.std.specs.Prelude.{◌≡◌, ℕ, ◌+◌, ◌-◌, ◌^◌, ◌≤◌, min, Bool, true, false, Result, Ok, Err}
+-- How an object of the outside counts its failed calls. This project's own.
+use Rattle.std.specs.Prelude.{◌≡◌, ℕ, zero, suc, ◌+◌, ◌-◌, ◌^◌, ◌≤◌, min, Bool, true, false, Result, Ok, Err}
 use Rattle.wb_ports.specs.declared.answers.PortErr.{PortErr}
 use Rattle.wb_ports.specs.declared.answers.PortErr.TheVariants.{Failed, OutOfMemory}
 
--- the number behind this one; a counter stands still at its last value
+-- the number after this one; a counter stands still at its last value
 abbrev pub next_count : ℕ → ℕ
 next_count count = min (count + 1) (2 ^ 64 - 1)
+
+-- the count after so many calls more
+abbrev pub grown : ℕ → ℕ → ℕ
+grown zero count = count
+grown (suc calls) count = next_count (grown calls count)
 
 -- a count that never falls rose in between, or stands at its counter's last value
 pub record Rose (before now : ℕ) : Type 0 where

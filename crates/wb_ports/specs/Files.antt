@@ -1,6 +1,8 @@
--- The files of a shelf by their names, and what the calls of a shelf make of them.
-use Rattle.std.specs.Prelude.{◌≡◌, ◌≢◌, ◌⊎◌, ℕ, List, [], ◌++◌, take, Bool, true, false, Option, Some, MatchOption}
+-- The files of a shelf by their names, and what the calls of a shelf make of them. This project's own.
+use Rattle.std.specs.Prelude.{◌≡◌, ◌≢◌, ◌⊎◌, ℕ, List, [], ◌++◌, take, Bool, true, false, Option, Some, None}
+use Rattle.std.specs.Prelude.{MatchOption, ⊤}
 use Rattle.wb_ports.specs.declared.shelf.FailedCall.{FailedCall}
+use Rattle.wb_ports.specs.declared.shelf.ShelfCall.{ShelfCall}
 use Rattle.wb_ports.specs.declared.shelf.TheConstants.{LOAD_LIMIT}
 
 -- what the file of each name holds, if there is one
@@ -36,11 +38,13 @@ pub record AppendsTo (name piece : List ℕ) (before now : Files) : Type 0 where
   pub holds : now name ≡ Some (bytes ++ piece)
   pub others : SameOthers name before now
 
--- what a failed write leaves: a front of the piece was appended
-abbrev pub AppendsFrontTo : List ℕ → List ℕ → Files → Files → Type 0
-AppendsFrontTo name piece before now = (n : ℕ) × AppendsTo name (take n piece) before now
+-- what a failed write leaves: a prefix of the piece was appended
+abbrev pub AppendsPrefixTo : List ℕ → List ℕ → Files → Files → Type 0
+AppendsPrefixTo name piece before now = (n : ℕ) × AppendsTo name (take n piece) before now
 
--- the last failed call: this one if it failed, else the one that it was before
-abbrev pub KeepsLastFailure : Bool → FailedCall → Option FailedCall → Option FailedCall → Type 0
-KeepsLastFailure true call before now = now ≡ Some call
-KeepsLastFailure false call before now = now ≡ before
+-- what a call on this file makes of the last failed call, where the shelf tells its files: one that failed is it now
+abbrev pub KeepsLastFailure :
+    Option Files → ShelfCall → List ℕ → Bool → Option FailedCall → Option FailedCall → Type 0
+KeepsLastFailure None call name failed before now = ⊤
+KeepsLastFailure (Some files) call name true before now = now ≡ Some (record { call = call; name = name })
+KeepsLastFailure (Some files) call name false before now = now ≡ before

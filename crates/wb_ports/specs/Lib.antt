@@ -1,3 +1,8 @@
+pub use Rattle.wb_base.specs.Bytes
+pub use Rattle.wb_base.specs.ConsoleLine
+pub use Rattle.wb_base.specs.FaultAt
+pub use Rattle.wb_base.specs.Steps
+pub use Rattle.wb_base.specs.WorkResult
 pub mod Counts
 pub mod Held
 pub mod Files
@@ -7,3 +12,5 @@ pub mod MemSink
 pub mod MemShelf
 pub mod DirShelf
 pub mod StdSink
+pub mod QuietSink
+pub mod inner

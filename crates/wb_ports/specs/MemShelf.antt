@@ -1,27 +1,23 @@
--- A shelf in memory, as its clauses see it.
-use Rattle.std.specs.Prelude.{◌≡◌, ℕ, ◌+◌, ◌-◌, ◌≤◌, List, [], ◌∷◌, ◌++◌, take, map, length, nat_lt, slice_get, Bool, true, false, ◌||◌, if◌then◌else◌, Option, Some, None, is_none, option_map, Result, Ok, Err, vec_len, vec_capacity, ⊤}
+-- A shelf in memory, as its clauses see it. This project's own.
+use Rattle.std.specs.Prelude.{◌≡◌, ℕ, ◌+◌, ◌-◌, List, [], ◌∷◌, ◌++◌, take, length, nat_lt, Bool}
+use Rattle.std.specs.Prelude.{true, false, ◌||◌, if◌then◌else◌, Option, Some, None, is_none, Result, Ok}
+use Rattle.std.specs.Prelude.{Err, ⊤}
 use Rattle.std.specs.Str.{bytes_eq}
-use Rattle.wb_ports.specs.Counts.{next_count}
 use Rattle.wb_ports.specs.Files.{Files, SameOthers}
-use Rattle.wb_ports.specs.InMemory.{is_listed}
+use Rattle.wb_ports.specs.InMemory.{Calls, is_next_listed, after_call as after_counted}
 use Rattle.wb_ports.specs.declared.answers.PortErr.{PortErr}
 use Rattle.wb_ports.specs.declared.answers.PortErr.TheVariants.{Failed, OutOfMemory}
 use Rattle.wb_ports.specs.declared.shelf.FailedCall.{FailedCall}
 use Rattle.wb_ports.specs.declared.shelf.ShelfCall.{ShelfCall}
-use Rattle.wb_ports.specs.declared.mem_shelf.MemFile.{MemFile}
-use Rattle.wb_ports.specs.declared.mem_shelf.Failures.{Failures}
 
 -- the files by name and bytes, whether the first of them is open, the call that failed last, how many bytes each
--- written file has room for, the numbers of the calls that are to fail, and how many calls there were and how many of
--- them failed
+-- written file has room for, and its calls
 pub record ShelfState : Type 0 where
   pub files : List (List ℕ × List ℕ)
   pub is_open : Bool
   pub last_failure : Option FailedCall
   pub room : ℕ
-  pub fails : List ℕ
-  pub calls : ℕ
-  pub faults : ℕ
+  pub calls : Calls
 
 -- what the file of this name holds, if there is one; of two of one name the first counts
 abbrev pub file_of : List (List ℕ × List ℕ) → Files
@@ -33,13 +29,9 @@ pub record PutsFile (name bytes : List ℕ) (before now : Files) : Type 0 where
   pub holds : now name ≡ Some bytes
   pub others : SameOthers name before now
 
--- whether the next call is one of those that are to fail
-abbrev pub is_next_listed : ShelfState → Bool
-is_next_listed shelf = is_listed shelf.fails (next_count shelf.calls)
-
 -- whether a load of this name fails
 abbrev pub fails_to_load : ShelfState → List ℕ → Bool
-fails_to_load shelf name = is_next_listed shelf || is_none (file_of shelf.files name)
+fails_to_load shelf name = is_next_listed shelf.calls || is_none (file_of shelf.files name)
 
 -- the name of the first file
 abbrev pub first_name : List (List ℕ × List ℕ) → List ℕ
@@ -62,11 +54,11 @@ open_name_of shelf = first_name shelf.files
 
 -- whether a write of the piece fails: its call is listed, or the piece passes the room
 abbrev pub fails_to_write : ShelfState → List ℕ → Bool
-fails_to_write shelf piece = is_next_listed shelf || nat_lt shelf.room (first_length shelf.files + length piece)
+fails_to_write shelf piece = is_next_listed shelf.calls || nat_lt shelf.room (first_length shelf.files + length piece)
 
 -- what a write appends of the piece: what fits, but nothing where the call is listed
 abbrev pub appended : ShelfState → List ℕ → List ℕ
-appended shelf piece = if is_next_listed shelf then [] else take (shelf.room - first_length shelf.files) piece
+appended shelf piece = if is_next_listed shelf.calls then [] else take (shelf.room - first_length shelf.files) piece
 
 -- a call that takes memory too fails exactly where this is true, unless it finds no memory
 abbrev pub FailsExactly : {T : Type 0} → Result T PortErr → Bool → Type 0
@@ -76,25 +68,8 @@ FailsExactly (Err OutOfMemory) fails = ⊤
 
 -- the shelf after a call that failed or did not, but for its files and the open one
 abbrev pub after_call : Bool → ShelfCall → List ℕ → ShelfState → ShelfState
-after_call false call name shelf = record shelf { calls = next_count shelf.calls }
+after_call false call name shelf = record shelf { calls = after_counted false shelf.calls }
 after_call true call name shelf = record shelf {
-  calls = next_count shelf.calls;
-  faults = next_count shelf.faults;
+  calls = after_counted true shelf.calls;
   last_failure = Some (record { call = call; name = name });
 }
-
--- the files of a shelf as its clauses see them
-abbrev pub files_in : List MemFile → List (List ℕ × List ℕ)
-files_in files = map (λ file. (file.name, file.bytes.items)) files
-
--- the call that failed last, as the clauses of a shelf see it
-abbrev pub last_failure_in : Failures → Option FailedCall
-last_failure_in failures = option_map (λ call. record { call = call; name = failures.name.items }) failures.last
-
--- the first file has this much room, all of it reserved, and its name fits in this capacity
-pub record IsWritable (room name_capacity : ℕ) (files : List MemFile) : Type 0 where
-  pub file : MemFile
-  pub first : slice_get files 0 ≡ Some file
-  pub reserved : room ≤ vec_capacity file.bytes
-  pub within : vec_len file.bytes ≤ room
-  pub name_fits : length file.name ≤ name_capacity

@@ -1,7 +1,7 @@
 //! How a call on an object of the outside is refused.
 ghost use Rattle.std.specs.Prelude.{◌≡◌};
 
-use std::alloc::AllocError;
+use std::alloc::{AllocError, AllocFailed};
 use wb_base::OutOfMemory;
 
 /// The call failed, which the object has counted. This project's own.
@@ -43,6 +43,16 @@ impl From<AllocError> for PortErr {
     ghost from_gives = { λ _ e. e ≡ OutOfMemory };
 
     fn from(_: AllocError) -> Self {
+        PortErr::OutOfMemory
+    }
+}
+
+impl<T: Drop> From<AllocFailed<T>> for PortErr {
+    ghost use Rattle.wb_ports.specs.declared.answers.PortErr.TheVariants.{OutOfMemory};
+
+    ghost from_gives = { λ _ e. e ≡ OutOfMemory };
+
+    fn from(_: AllocFailed<T>) -> Self {
         PortErr::OutOfMemory
     }
 }

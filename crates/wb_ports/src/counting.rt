@@ -1,7 +1,11 @@
-//! How the objects in memory count their calls, and know which of them are to fail.
-ghost use Rattle.std.specs.Prelude.{◌≡◌, ◌+◌, ◌-◌, ◌≤◌, ◌++◌, take, length, vec_len, vec_capacity, nat_le};
+//! How the objects of the outside count their failed calls, and those in memory know which calls are to fail.
+ghost use Rattle.std.specs.Prelude.{◌≡◌, ◌+◌, ◌-◌, ◌≤◌, ◌++◌, take, length, vec_len, vec_capacity, nat_le, IfOk};
 ghost use Rattle.wb_ports.specs.Counts.{Rose, next_count};
-ghost use Rattle.wb_ports.specs.InMemory.{is_listed};
+ghost use Rattle.wb_ports.specs.InMemory.{is_next_listed, with_call, with_failure};
+
+use std::alloc::Global;
+use std::marker::Model;
+use wb_base::OutOfMemory;
 
 // Raises a count, which stands still at its last value.
 pub(crate) fn raise(count: &mut u64)
@@ -11,13 +15,51 @@ pub(crate) fn raise(count: &mut u64)
     *count = count.saturating_add(1);
 }
 
-// Counts a call, and tells whether it is one of those that are to fail.
-pub(crate) fn count_call(calls: &mut u64, fails: &[u64]) -> bool
-    ensures counted { calls.new ≡ next_count calls.old }
-    ensures listed { result ≡ is_listed fails.now (next_count calls.old) }
-{
-    raise(calls);
-    fails.contains(calls)
+// The calls of an object in memory: the numbers, from 1, of those that are to fail, how many there were, and how many
+// of them failed.
+#[derive(Drop)]
+pub(crate) struct CallCounter {
+    fails: Vec<u64>,
+    count: u64,
+    faults: u64,
+}
+
+impl Model for CallCounter {
+    ghost use Rattle.wb_ports.specs.InMemory.{Calls};
+
+    ghost Value = { Calls };
+
+    ghost view = { λ counter. record { fails = counter.fails.items; count = counter.count; faults = counter.faults } };
+}
+
+impl CallCounter {
+    // No calls yet.
+    pub(crate) fn new(alloc: Global, fails: &[u64]) -> Result<CallCounter, OutOfMemory>
+        ensures { IfOk result (λ calls. calls ≡ record { fails = fails.now; count = 0; faults = 0 }) }
+    {
+        Ok(CallCounter {
+            fails: Vec::from_slice(alloc, fails)?,
+            count: 0,
+            faults: 0,
+        })
+    }
+
+    // Counts a call, and tells whether it is one of those that are to fail.
+    pub(crate) fn count_call(&mut self) -> bool
+        ensures counted { self.new ≡ with_call self.old }
+        ensures listed { result ≡ is_next_listed self.old }
+    {
+        raise(&mut self.count);
+        self.fails.contains(&self.count)
+    }
+
+    // Counts that the call failed.
+    pub(crate) fn count_failure(&mut self)
+        ensures counted { self.new ≡ with_failure self.old }
+        ensures rose { Rose self.old.faults self.new.faults }
+    {
+        raise(&mut self.faults);
+    }
 }
 
 // Appends what fits in the room, which is reserved, and tells whether that was all.
@@ -32,8 +74,8 @@ pub(crate) fn append_within(bytes: &mut Vec<u8>, room: usize, piece: &[u8]) -> b
 {
     let left = room - bytes.len();
     let fits = piece.len() <= left;
-    let front = if fits { piece } else { &piece[..left] };
-    let appended = bytes.extend_from_slice(front);
+    let fitting = if fits { piece } else { &piece[..left] };
+    let appended = bytes.extend_from_slice(fitting);
     prove!(appended.is_ok());
     fits
 }

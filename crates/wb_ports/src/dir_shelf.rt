@@ -1,8 +1,10 @@
 //! A shelf over the files of the current folder.
-ghost use Rattle.std.specs.Prelude.{◌≡◌, ◌⊎◌, ◌<◌, ◌≤◌, true, false, None, take, length, ℕ, OnOk, OnErr, IfOk, IfSome, is_err};
+ghost use Rattle.std.specs.Prelude.{◌≡◌, ◌⊎◌, ◌<◌, ◌≤◌, true, false, None, take, length, ℕ, OnOk, OnErr, IfOk};
+ghost use Rattle.std.specs.Prelude.{IfSome, is_err};
 ghost use Rattle.std.specs.Io.KnownBytes.{Appends, IsAtEnd};
 ghost use Rattle.wb_ports.specs.Counts.{CountsFailure, is_failed};
-ghost use Rattle.wb_ports.specs.DirShelf.{DirState, Moves};
+ghost use Rattle.wb_ports.specs.DirShelf.{DirState};
+ghost use Rattle.wb_ports.specs.inner.Moving.{Moves};
 
 use crate::counting::raise;
 use crate::writing::{flush, write_whole};
@@ -93,7 +95,7 @@ impl<R: Files> Shelf for DirShelf<R> {
         requires { self.old.is_open ≡ true }
 
         ensures written { OnOk result (Appends self.old.written self.new.written piece.now) }
-        ensures front { OnErr result ((n : ℕ) × Appends self.old.written self.new.written (take n piece.now)) }
+        ensures prefix { OnErr result ((n : ℕ) × Appends self.old.written self.new.written (take n piece.now)) }
         ensures open { self.new.is_open ≡ true }
         ensures cause { CountsFailure (is_err result) self.old.faults self.new.faults }
     {
@@ -131,7 +133,9 @@ fn count_failure<T>(faults: &mut u64, answer: &Result<T, PortErr>)
 }
 
 // The bytes of the file of this name, at most the first `LOAD_LIMIT`.
-fn load_file<R: Files>(alloc: Global, files: &R, name: &[u8]) -> Result<Text, PortErr> {
+fn load_file<R: Files>(alloc: Global, files: &R, name: &[u8]) -> Result<Text, PortErr>
+    ensures { IfOk result (λ text. length text ≤ LOAD_LIMIT) }
+{
     let Ok(path) = str::from_utf8(name) else {
         return Err(PortErr::Failed);
     };
@@ -143,7 +147,8 @@ fn load_file<R: Files>(alloc: Global, files: &R, name: &[u8]) -> Result<Text, Po
 
 // What the reader gives up to its end, at most so many bytes, in as many turns.
 fn read_text<F: Read>(alloc: Global, file: &mut F, limit: usize) -> Result<Text, PortErr>
-    ensures { IfOk result (λ text. IfSome (F.remaining file.old) (λ bytes. text ≡ take limit bytes)) }
+    ensures bytes { IfOk result (λ text. IfSome (F.remaining file.old) (λ bytes. text ≡ take limit bytes)) }
+    ensures within { IfOk result (λ text. length text ≤ limit) }
 {
     let mut text = Text::new(alloc);
     for _ in 0..limit {

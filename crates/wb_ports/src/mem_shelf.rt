@@ -1,12 +1,18 @@
 //! A shelf in memory, which fails where it is told to.
-ghost use Rattle.std.specs.Prelude.{◌≡◌, ◌⊎◌, ℕ, true, false, not, ◌||◌, nat_lt, if◌then◌else◌, IsErrOf, is_ok, ◌+◌, ◌-◌, ◌<◌, ◌≤◌, nat_le, [], take, length, option_map, Some, None, IfOk, OnOk, OnErr, is_err, slice_get, option_copied, vec_len, vec_capacity};
+ghost use Rattle.std.specs.Prelude.{◌≡◌, ◌⊎◌, ℕ, true, false, not, ◌||◌, nat_lt, if◌then◌else◌, IsErrOf, is_ok, ◌+◌};
+ghost use Rattle.std.specs.Prelude.{◌-◌, ◌<◌, ◌≤◌, nat_le, [], take, length, option_map, Some, None, IfOk, IfSome};
+ghost use Rattle.std.specs.Prelude.{OnOk, OnErr, is_err, slice_get, option_copied, vec_len, vec_capacity};
 ghost use Rattle.std.specs.List.{position};
 ghost use Rattle.std.specs.Str.{bytes_eq};
-ghost use Rattle.wb_ports.specs.Counts.{CountsFailure, next_count, is_failed};
-ghost use Rattle.wb_ports.specs.Files.{Loads, SameFiles, SameOthers, Empties, AppendsTo, AppendsFrontTo, KeepsLastFailure};
-ghost use Rattle.wb_ports.specs.MemShelf.{ShelfState, PutsFile, IsWritable, FailsExactly, file_of, files_in, first_name, last_failure_in, with_more, first_length, open_name_of, is_next_listed, fails_to_load, fails_to_write, appended, after_call};
+ghost use Rattle.wb_ports.specs.Counts.{CountsFailure, Rose, is_failed};
+ghost use Rattle.wb_ports.specs.InMemory.{is_next_listed, with_failure};
+ghost use Rattle.wb_ports.specs.Files.{Loads, SameFiles, SameOthers, Empties, AppendsTo, AppendsPrefixTo};
+ghost use Rattle.wb_ports.specs.Files.{KeepsLastFailure};
+ghost use Rattle.wb_ports.specs.MemShelf.{ShelfState, PutsFile, FailsExactly, file_of, first_name, first_length};
+ghost use Rattle.wb_ports.specs.MemShelf.{with_more, open_name_of, fails_to_load, fails_to_write, appended, after_call};
+ghost use Rattle.wb_ports.specs.inner.MemShelfKept.{IsWritable, files_in, last_failure_in};
 
-use crate::counting::{append_within, count_call, raise};
+use crate::counting::{CallCounter, append_within};
 use crate::{Failed, LOAD_LIMIT, PortErr, Shelf, ShelfCall};
 use std::alloc::Global;
 use std::marker::Model;
@@ -19,11 +25,10 @@ struct MemFile {
     bytes: Vec<u8>,
 }
 
-// How many calls failed, which of them was the last, and the name of its file.
+// Which call failed last, if one did, and the name of its file.
 #[derive(Drop)]
-struct Failures {
-    count: u64,
-    last: Option<ShelfCall>,
+struct LastFailure {
+    call: Option<ShelfCall>,
     name: Vec<u8>,
 }
 
@@ -34,30 +39,28 @@ pub struct MemShelf {
     // The open file stands first.
     files: Vec<MemFile>,
     is_open: bool,
-    failures: Failures,
+    last_failure: LastFailure,
     room: usize,
-    fails: Vec<u64>,
-    calls: u64,
+    calls: CallCounter,
 }
 
 impl Model for MemShelf {
     ghost use Rattle.std.specs.Prelude.{◌≡◌, true, vec_capacity};
-    ghost use Rattle.wb_ports.specs.MemShelf.{ShelfState, IsWritable, files_in, last_failure_in};
+    ghost use Rattle.wb_ports.specs.MemShelf.{ShelfState};
+    ghost use Rattle.wb_ports.specs.inner.MemShelfKept.{IsWritable, files_in, last_failure_in};
 
     ghost Value = { ShelfState };
 
     ghost view = { λ shelf. record {
       files = files_in shelf.files.items;
       is_open = shelf.is_open;
-      last_failure = last_failure_in shelf.failures;
+      last_failure = last_failure_in shelf.last_failure;
       room = shelf.room;
-      fails = shelf.fails.items;
       calls = shelf.calls;
-      faults = shelf.failures.count;
     } };
 
     ghost invariant = { λ shelf. shelf.is_open ≡ true →
-        IsWritable shelf.room (vec_capacity shelf.failures.name) shelf.files.items };
+        IsWritable shelf.room (vec_capacity shelf.last_failure.name) shelf.files.items };
 }
 
 // The place of the file of this name, if there is one.
@@ -119,7 +122,8 @@ fn append_unless(listed: bool, files: &mut Vec<MemFile>, room: usize, piece: &[u
     requires { (name_capacity : ℕ) × IsWritable room name_capacity files.old.items }
 
     ensures bytes { files_in files.new.items ≡ with_more
-        (if listed then [] else take (room - first_length (files_in files.old.items)) piece.now) (files_in files.old.items) }
+        (if listed then [] else take (room - first_length (files_in files.old.items)) piece.now)
+        (files_in files.old.items) }
     ensures all { not result ≡ (listed || nat_lt room (first_length (files_in files.old.items) + length piece.now)) }
     ensures still_writable { (name_capacity : ℕ) →
         IsWritable room name_capacity files.old.items → IsWritable room name_capacity files.new.items }
@@ -138,18 +142,19 @@ fn reserve_name(kept: &mut Vec<u8>, name: &[u8]) -> Result<(), OutOfMemory>
 }
 
 // Counts a failed call and keeps it. The room for its name is reserved.
-fn keep_failure(failures: &mut Failures, call: ShelfCall, name: &[u8])
-    requires { length name.now ≤ vec_capacity failures.old.name }
+fn keep_failure(calls: &mut CallCounter, kept: &mut LastFailure, call: ShelfCall, name: &[u8])
+    requires { length name.now ≤ vec_capacity kept.old.name }
 
-    ensures count { failures.new.count ≡ next_count failures.old.count }
-    ensures last { last_failure_in failures.new ≡ Some (record { call = call; name = name.now }) }
-    ensures capacity { vec_capacity failures.old.name ≤ vec_capacity failures.new.name }
+    ensures counted { calls.new ≡ with_failure calls.old }
+    ensures rose { Rose calls.old.faults calls.new.faults }
+    ensures last { last_failure_in kept.new ≡ Some (record { call = call; name = name.now }) }
+    ensures capacity { vec_capacity kept.old.name ≤ vec_capacity kept.new.name }
 {
-    raise(&mut failures.count);
-    failures.last = Some(call);
-    failures.name.clear();
-    let kept = failures.name.extend_from_slice(name);
-    prove!(kept.is_ok());
+    calls.count_failure();
+    kept.call = Some(call);
+    kept.name.clear();
+    let copied = kept.name.extend_from_slice(name);
+    prove!(copied.is_ok());
 }
 
 // Reserves a place for one file more.
@@ -162,8 +167,9 @@ fn reserve_place(files: &mut Vec<MemFile>) -> Result<(), OutOfMemory>
 }
 
 // The first bytes, at most so many.
-fn front(bytes: &[u8], limit: usize) -> &[u8]
-    ensures { result.now ≡ take limit bytes.now }
+fn prefix(bytes: &[u8], limit: usize) -> &[u8]
+    ensures bytes { result.now ≡ take limit bytes.now }
+    ensures within { length result.now ≤ limit }
 {
     if bytes.len() <= limit {
         bytes
@@ -174,16 +180,19 @@ fn front(bytes: &[u8], limit: usize) -> &[u8]
 
 // A copy of what is loaded of these bytes.
 fn loaded_part(alloc: Global, bytes: &[u8]) -> Result<Text, OutOfMemory>
-    ensures { IfOk result (λ text. text ≡ take LOAD_LIMIT bytes.now) }
+    ensures bytes { IfOk result (λ text. text ≡ take LOAD_LIMIT bytes.now) }
+    ensures limit { IfOk result (λ text. length text ≤ LOAD_LIMIT) }
 {
     let mut text = Text::new(alloc);
-    text.push_all(front(bytes, LOAD_LIMIT))?;
+    text.push_all(prefix(bytes, LOAD_LIMIT))?;
     Ok(text)
 }
 
 // What is loaded of the file of this name, if there is one.
 fn loaded(alloc: Global, files: &[MemFile], name: &[u8]) -> Result<Option<Text>, OutOfMemory>
-    ensures { IfOk result (λ text. text ≡ option_map (λ all. take LOAD_LIMIT all) (file_of (files_in files.now) name.now)) }
+    ensures bytes { IfOk result (λ text.
+        text ≡ option_map (λ all. take LOAD_LIMIT all) (file_of (files_in files.now) name.now)) }
+    ensures limit { IfOk result (λ text. IfSome text (λ t. length t ≤ LOAD_LIMIT)) }
 {
     match bytes_of(files, name) {
         Some(bytes) => Ok(Some(loaded_part(alloc, bytes)?)),
@@ -220,8 +229,8 @@ fn empty_file(alloc: Global, name: &[u8], room: usize) -> Result<MemFile, OutOfM
 }
 
 impl MemShelf {
-    /// A shelf without files. Each written file will have room for so many bytes. `fails` lists the numbers, from 1,
-    /// of the calls of `load`, `create`, `write` and `close` that are to fail; a call that finds no memory has no number.
+    /// A shelf without files. Each written file will have room for so many bytes. `fails` lists the numbers, from 1, of
+    /// the calls of `load`, `create`, `write` and `close` that are to fail; a call that finds no memory has no number.
     /// It is refused only where no memory is found.
     pub fn new(alloc: Global, room: usize, fails: &[u64]) -> Result<MemShelf, OutOfMemory>
         ensures { IfOk result (λ shelf. shelf ≡ record {
@@ -229,22 +238,18 @@ impl MemShelf {
           is_open = false;
           last_failure = None;
           room = room;
-          fails = fails.now;
-          calls = 0;
-          faults = 0;
+          calls = record { fails = fails.now; count = 0; faults = 0 };
         }) }
     {
         Ok(MemShelf {
             files: Vec::new(alloc),
             is_open: false,
-            failures: Failures {
-                count: 0,
-                last: None,
+            last_failure: LastFailure {
+                call: None,
                 name: Vec::new(alloc),
             },
             room,
-            fails: Vec::from_slice(alloc, fails)?,
-            calls: 0,
+            calls: CallCounter::new(alloc, fails)?,
         })
     }
 
@@ -272,7 +277,7 @@ impl MemShelf {
 }
 
 impl Shelf for MemShelf {
-    ghost faults = { λ shelf. shelf.faults };
+    ghost faults = { λ shelf. shelf.calls.faults };
 
     ghost files = { λ shelf. Some (file_of shelf.files) };
 
@@ -291,20 +296,26 @@ impl Shelf for MemShelf {
             ⊎ (self.new ≡ after_call (is_failed result) ShelfCall.Load name.now self.old) }
 
         ensures loaded { IfOk result (Loads (file_of self.old.files) name.now) }
+        ensures limit { IfOk result (λ text. length text ≤ LOAD_LIMIT) }
         ensures files { SameFiles (file_of self.old.files) (file_of self.new.files) }
         ensures open { self.new.is_open ≡ self.old.is_open }
         ensures open_name { open_name_of self.new ≡ open_name_of self.old }
-        ensures cause { CountsFailure (is_failed result) self.old.faults self.new.faults }
-        ensures last { KeepsLastFailure (is_failed result)
-            (record { call = ShelfCall.Load; name = name.now }) self.old.last_failure self.new.last_failure }
+        ensures cause { CountsFailure (is_failed result) self.old.calls.faults self.new.calls.faults }
+        ensures last { KeepsLastFailure (Some (file_of self.old.files)) ShelfCall.Load name.now (is_failed result)
+            self.old.last_failure self.new.last_failure }
     {
-        reserve_name(&mut self.failures.name, name)?;
+        reserve_name(&mut self.last_failure.name, name)?;
         let text = loaded(alloc, &self.files, name)?;
-        let listed = count_call(&mut self.calls, &self.fails);
+        let listed = self.calls.count_call();
         match text {
             Some(text) if !listed => Ok(text),
             _ => {
-                keep_failure(&mut self.failures, ShelfCall::Load, name);
+                keep_failure(
+                    &mut self.calls,
+                    &mut self.last_failure,
+                    ShelfCall::Load,
+                    name,
+                );
                 Err(PortErr::Failed)
             }
         }
@@ -315,7 +326,7 @@ impl Shelf for MemShelf {
     fn create(&mut self, name: &[u8]) -> Result<(), PortErr>
         requires { self.old.is_open ≡ false }
 
-        ensures fails { FailsExactly result (is_next_listed self.old) }
+        ensures fails { FailsExactly result (is_next_listed self.old.calls) }
         ensures state { IsErrOf result PortErr.OutOfMemory
             ⊎ (self.new ≡ record (after_call (is_failed result) ShelfCall.Create name.now self.old) {
               files = self.new.files;
@@ -327,15 +338,20 @@ impl Shelf for MemShelf {
         ensures open_name { OnOk result (open_name_of self.new ≡ name.now) }
         ensures out_of_memory { IsErrOf result PortErr.OutOfMemory → self.new ≡ self.old }
         ensures failed { IsErrOf result PortErr.Failed → self.new.files ≡ self.old.files }
-        ensures cause { CountsFailure (is_failed result) self.old.faults self.new.faults }
-        ensures last { KeepsLastFailure (is_failed result)
-            (record { call = ShelfCall.Create; name = name.now }) self.old.last_failure self.new.last_failure }
+        ensures cause { CountsFailure (is_failed result) self.old.calls.faults self.new.calls.faults }
+        ensures last { KeepsLastFailure (Some (file_of self.old.files)) ShelfCall.Create name.now (is_failed result)
+            self.old.last_failure self.new.last_failure }
     {
-        reserve_name(&mut self.failures.name, name)?;
+        reserve_name(&mut self.last_failure.name, name)?;
         let file = empty_file(*self.files.allocator(), name, self.room)?;
         reserve_place(&mut self.files)?;
-        if count_call(&mut self.calls, &self.fails) {
-            keep_failure(&mut self.failures, ShelfCall::Create, name);
+        if self.calls.count_call() {
+            keep_failure(
+                &mut self.calls,
+                &mut self.last_failure,
+                ShelfCall::Create,
+                name,
+            );
             return Err(PortErr::Failed);
         }
         put_first(&mut self.files, file);
@@ -349,24 +365,29 @@ impl Shelf for MemShelf {
         requires { self.old.is_open ≡ true }
 
         ensures fails { is_err result ≡ fails_to_write self.old piece.now }
-        ensures state { self.new ≡ record (after_call (is_err result) ShelfCall.Write (open_name_of self.old) self.old) {
-          files = with_more (appended self.old piece.now) self.old.files;
-        } }
+        ensures state { self.new ≡ record
+            (after_call (is_err result) ShelfCall.Write (open_name_of self.old) self.old) {
+              files = with_more (appended self.old piece.now) self.old.files;
+            } }
 
-        ensures ok { OnOk result (AppendsTo (open_name_of self.old) piece.now (file_of self.old.files) (file_of self.new.files)) }
-        ensures failed { OnErr result (AppendsFrontTo (open_name_of self.old) piece.now (file_of self.old.files) (file_of self.new.files)) }
+        ensures ok { OnOk result (AppendsTo (open_name_of self.old) piece.now (file_of self.old.files)
+            (file_of self.new.files)) }
+        ensures failed { OnErr result (AppendsPrefixTo (open_name_of self.old) piece.now (file_of self.old.files)
+            (file_of self.new.files)) }
         ensures open { self.new.is_open ≡ true }
         ensures open_name { open_name_of self.new ≡ open_name_of self.old }
-        ensures cause { CountsFailure (is_err result) self.old.faults self.new.faults }
-        ensures last { KeepsLastFailure (is_err result)
-            (record { call = ShelfCall.Write; name = open_name_of self.old }) self.old.last_failure self.new.last_failure }
+        ensures cause { CountsFailure (is_err result) self.old.calls.faults self.new.calls.faults }
+        ensures last { KeepsLastFailure (Some (file_of self.old.files)) ShelfCall.Write (open_name_of self.old)
+            (is_err result)
+            self.old.last_failure self.new.last_failure }
     {
-        let listed = count_call(&mut self.calls, &self.fails);
+        let listed = self.calls.count_call();
         if append_unless(listed, &mut self.files, self.room, piece) {
             return Ok(());
         }
         keep_failure(
-            &mut self.failures,
+            &mut self.calls,
+            &mut self.last_failure,
             ShelfCall::Write,
             self.files[0].name.bytes(),
         );
@@ -377,20 +398,23 @@ impl Shelf for MemShelf {
     fn close(&mut self) -> Result<(), Failed>
         requires { self.old.is_open ≡ true }
 
-        ensures fails { is_err result ≡ is_next_listed self.old }
-        ensures state { self.new ≡ record (after_call (is_err result) ShelfCall.Close (open_name_of self.old) self.old) {
-          is_open = is_err result;
-        } }
+        ensures fails { is_err result ≡ is_next_listed self.old.calls }
+        ensures state { self.new ≡ record
+            (after_call (is_err result) ShelfCall.Close (open_name_of self.old) self.old) {
+              is_open = is_err result;
+            } }
 
         ensures closed { OnOk result (self.new.is_open ≡ false) }
         ensures files { SameFiles (file_of self.old.files) (file_of self.new.files) }
-        ensures cause { CountsFailure (is_err result) self.old.faults self.new.faults }
-        ensures last { KeepsLastFailure (is_err result)
-            (record { call = ShelfCall.Close; name = open_name_of self.old }) self.old.last_failure self.new.last_failure }
+        ensures cause { CountsFailure (is_err result) self.old.calls.faults self.new.calls.faults }
+        ensures last { KeepsLastFailure (Some (file_of self.old.files)) ShelfCall.Close (open_name_of self.old)
+            (is_err result)
+            self.old.last_failure self.new.last_failure }
     {
-        if count_call(&mut self.calls, &self.fails) {
+        if self.calls.count_call() {
             keep_failure(
-                &mut self.failures,
+                &mut self.calls,
+                &mut self.last_failure,
                 ShelfCall::Close,
                 self.files[0].name.bytes(),
             );

@@ -1,10 +1,10 @@
 //! A sink in memory, which fails where it is told to.
 ghost use Rattle.std.specs.Prelude.{◌≡◌, [], Some, IfOk, OnOk, OnErr, is_err};
 ghost use Rattle.wb_ports.specs.Counts.{CountsFailure};
-ghost use Rattle.wb_ports.specs.Held.{Appends, AppendsFront};
+ghost use Rattle.wb_ports.specs.Held.{Gains, GainsPrefix};
 ghost use Rattle.wb_ports.specs.MemSink.{SinkState, fails_to_write, after_write};
 
-use crate::counting::{append_within, count_call, raise};
+use crate::counting::{CallCounter, append_within};
 use crate::{Failed, Sink};
 use std::alloc::Global;
 use std::marker::Model;
@@ -16,9 +16,7 @@ use wb_base::OutOfMemory;
 pub struct MemSink {
     bytes: Vec<u8>,
     room: usize,
-    fails: Vec<u64>,
-    calls: u64,
-    faults: u64,
+    calls: CallCounter,
 }
 
 impl Model for MemSink {
@@ -27,13 +25,7 @@ impl Model for MemSink {
 
     ghost Value = { SinkState };
 
-    ghost view = { λ sink. record {
-      bytes = sink.bytes.items;
-      room = sink.room;
-      fails = sink.fails.items;
-      calls = sink.calls;
-      faults = sink.faults;
-    } };
+    ghost view = { λ sink. record { bytes = sink.bytes.items; room = sink.room; calls = sink.calls } };
 
     ghost invariant = { λ sink. (sink.room ≤ vec_capacity sink.bytes) × (vec_len sink.bytes ≤ sink.room) };
 }
@@ -43,14 +35,12 @@ impl MemSink {
     /// It is refused only where no memory is found.
     pub fn new(alloc: Global, room: usize, fails: &[u64]) -> Result<MemSink, OutOfMemory>
         ensures { IfOk result (λ sink. sink ≡
-            record { bytes = []; room = room; fails = fails.now; calls = 0; faults = 0 }) }
+            record { bytes = []; room = room; calls = record { fails = fails.now; count = 0; faults = 0 } }) }
     {
         Ok(MemSink {
             bytes: Vec::with_capacity(alloc, room)?,
             room,
-            fails: Vec::from_slice(alloc, fails)?,
-            calls: 0,
-            faults: 0,
+            calls: CallCounter::new(alloc, fails)?,
         })
     }
 
@@ -65,7 +55,7 @@ impl MemSink {
 impl Sink for MemSink {
     type Frame = ();
 
-    ghost faults = { λ sink. sink.faults };
+    ghost faults = { λ sink. sink.calls.faults };
 
     ghost held = { λ sink. Some sink.bytes };
 
@@ -77,15 +67,15 @@ impl Sink for MemSink {
         ensures fails { is_err result ≡ fails_to_write self.old piece.now }
         ensures state { self.new ≡ after_write self.old piece.now }
 
-        ensures ok { OnOk result (Appends piece.now (Some self.old.bytes) (Some self.new.bytes)) }
-        ensures failed { OnErr result (AppendsFront piece.now (Some self.old.bytes) (Some self.new.bytes)) }
-        ensures cause { CountsFailure (is_err result) self.old.faults self.new.faults }
+        ensures ok { OnOk result (Gains piece.now (Some self.old.bytes) (Some self.new.bytes)) }
+        ensures failed { OnErr result (GainsPrefix piece.now (Some self.old.bytes) (Some self.new.bytes)) }
+        ensures cause { CountsFailure (is_err result) self.old.calls.faults self.new.calls.faults }
     {
-        let listed = count_call(&mut self.calls, &self.fails);
+        let listed = self.calls.count_call();
         if !listed && append_within(&mut self.bytes, self.room, piece) {
             return Ok(());
         }
-        raise(&mut self.faults);
+        self.calls.count_failure();
         Err(Failed)
     }
 }

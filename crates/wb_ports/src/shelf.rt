@@ -1,15 +1,17 @@
 //! A shelf of files.
-ghost use Rattle.std.specs.Prelude.{◌≡◌, ℕ, List, Option, Bool, true, false, IfOk, IfSome, OnOk, OnErr, OnSome, IsErrOf, is_err};
+ghost use Rattle.std.specs.Prelude.{◌≡◌, ◌≤◌, ℕ, List, length, Option, Bool, true, false, IfOk, IfSome, OnOk, OnErr};
+ghost use Rattle.std.specs.Prelude.{OnSome, IsErrOf, is_err};
 ghost use Rattle.wb_ports.specs.Counts.{CountsFailure, is_failed};
 ghost use Rattle.wb_ports.specs.Held.{WhereTold};
-ghost use Rattle.wb_ports.specs.Files.{Loads, SameFiles, Empties, EmptiesOrKeeps, AppendsTo, AppendsFrontTo, KeepsLastFailure};
+ghost use Rattle.wb_ports.specs.Files.{Loads, SameFiles, Empties, EmptiesOrKeeps, AppendsTo, AppendsPrefixTo};
+ghost use Rattle.wb_ports.specs.Files.{KeepsLastFailure};
 
 use crate::{Failed, PortErr};
 use std::alloc::Global;
-use wb_base::Text;
+use wb_base::{FILE_LIMIT, Text};
 
 /// At most so many bytes are loaded of a file: one more than an input may have. This project's own.
-pub const LOAD_LIMIT: usize = 16_777_217;
+pub const LOAD_LIMIT: usize = FILE_LIMIT + 1;
 
 /// A call of a shelf.
 #[derive(Clone, Copy, Debug, PartialEq, Eq)]
@@ -56,12 +58,13 @@ pub trait Shelf {
     /// is changed, opened or closed.
     fn load(&mut self, alloc: Global, name: &[u8]) -> Result<Text, PortErr>
         ensures loaded { IfOk result (λ text. IfSome (files self.old) (λ files. Loads files name.now text)) }
+        ensures limit { IfOk result (λ text. length text ≤ LOAD_LIMIT) }
         ensures files { WhereTold SameFiles (files self.old) (files self.new) }
         ensures open { is_open self.new ≡ is_open self.old }
         ensures open_name { open_name self.new ≡ open_name self.old }
         ensures cause { CountsFailure (is_failed result) (faults self.old) (faults self.new) }
-        ensures last { OnSome (files self.old) (KeepsLastFailure (is_failed result)
-            (record { call = ShelfCall.Load; name = name.now }) (last_failure self.old) (last_failure self.new)) };
+        ensures last { KeepsLastFailure (files self.old) ShelfCall.Load name.now (is_failed result)
+            (last_failure self.old) (last_failure self.new) };
 
     /// Makes the named file empty and open. After want of memory every file is as it was and none was opened. After
     /// `Failed` the named file is as it was or empty; whether a file is open is not said.
@@ -77,21 +80,23 @@ pub trait Shelf {
         ensures failed { OnErr result (WhereTold (EmptiesOrKeeps name.now) (files self.old) (files self.new)) }
 
         ensures cause { CountsFailure (is_failed result) (faults self.old) (faults self.new) }
-        ensures last { OnSome (files self.old) (KeepsLastFailure (is_failed result)
-            (record { call = ShelfCall.Create; name = name.now }) (last_failure self.old) (last_failure self.new)) };
+        ensures last { KeepsLastFailure (files self.old) ShelfCall.Create name.now (is_failed result)
+            (last_failure self.old) (last_failure self.new) };
 
-    /// Appends the piece to the open file, which stays open. After `Failed` a front of the piece was appended.
+    /// Appends the piece to the open file, which stays open. After `Failed` a prefix of the piece was appended.
     fn write(&mut self, piece: &[u8]) -> Result<(), Failed>
         requires { is_open self.old ≡ true }
 
-        ensures ok { OnOk result (WhereTold (AppendsTo (open_name self.old) piece.now) (files self.old) (files self.new)) }
-        ensures failed { OnErr result (WhereTold (AppendsFrontTo (open_name self.old) piece.now) (files self.old) (files self.new)) }
+        ensures ok { OnOk result (WhereTold (AppendsTo (open_name self.old) piece.now) (files self.old)
+            (files self.new)) }
+        ensures failed { OnErr result (WhereTold (AppendsPrefixTo (open_name self.old) piece.now) (files self.old)
+            (files self.new)) }
         ensures open { is_open self.new ≡ true }
         ensures open_name { open_name self.new ≡ open_name self.old }
 
         ensures cause { CountsFailure (is_err result) (faults self.old) (faults self.new) }
-        ensures last { OnSome (files self.old) (KeepsLastFailure (is_err result)
-            (record { call = ShelfCall.Write; name = open_name self.old }) (last_failure self.old) (last_failure self.new)) };
+        ensures last { KeepsLastFailure (files self.old) ShelfCall.Write (open_name self.old) (is_err result)
+            (last_failure self.old) (last_failure self.new) };
 
     /// Closes the open file. No file is changed. After `Failed` it is not said whether a file is open.
     fn close(&mut self) -> Result<(), Failed>
@@ -101,6 +106,6 @@ pub trait Shelf {
         ensures files { WhereTold SameFiles (files self.old) (files self.new) }
 
         ensures cause { CountsFailure (is_err result) (faults self.old) (faults self.new) }
-        ensures last { OnSome (files self.old) (KeepsLastFailure (is_err result)
-            (record { call = ShelfCall.Close; name = open_name self.old }) (last_failure self.old) (last_failure self.new)) };
+        ensures last { KeepsLastFailure (files self.old) ShelfCall.Close (open_name self.old) (is_err result)
+            (last_failure self.old) (last_failure self.new) };
 }

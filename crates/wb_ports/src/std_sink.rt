@@ -47,7 +47,7 @@ impl<W: Write> Sink for StdSink<W> {
     /// Writes the piece to the stream and flushes it. It fails where the stream does, or takes nothing of what is left.
     fn write(&mut self, piece: &[u8]) -> Result<(), Failed>
         ensures written { OnOk result (Appends self.old.written self.new.written piece.now) }
-        ensures front { OnErr result ((n : ℕ) × Appends self.old.written self.new.written (take n piece.now)) }
+        ensures prefix { OnErr result ((n : ℕ) × Appends self.old.written self.new.written (take n piece.now)) }
         ensures cause { CountsFailure (is_err result) self.old.faults self.new.faults }
     {
         let written = write_and_flush(&mut self.stream, piece);

@@ -17,6 +17,16 @@ fn a_sink_in_memory_fails_where_it_is_told_to(rt: HostRuntime) -> Result<(), Fai
 }
 
 #[test]
+fn a_quiet_sink_tells_until_it_drops_a_piece(rt: HostRuntime) -> Result<(), Fail> {
+    let mut sink = QuietSink::new(rt.alloc(), 4)?;
+    assert_eq!(rt; sink.write(b"abc"), Ok(()));
+    assert_eq!(rt; sink.bytes(), Some(b"abc".as_slice()));
+    assert_eq!(rt; sink.write(b"de"), Ok(()));
+    assert_eq!(rt; sink.bytes(), None);
+    Ok(())
+}
+
+#[test]
 fn a_shelf_in_memory_keeps_its_files(rt: HostRuntime) -> Result<(), Fail> {
     let alloc = rt.alloc();
     let mut shelf = MemShelf::new(alloc, 4, &[2, 6])?;

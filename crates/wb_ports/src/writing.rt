@@ -5,8 +5,8 @@ ghost use Rattle.std.specs.Io.KnownBytes.{Appends};
 use crate::Failed;
 use std::io::Write;
 
-// Writes the whole piece, in as many turns as it takes. A turn that takes nothing is a failure, after which a front of
-// the piece was written.
+// Writes the whole piece, in as many turns as it takes. A turn that takes nothing is a failure, after which a prefix
+// of the piece was written.
 pub(crate) fn write_whole<W: Write>(writer: &mut W, piece: &[u8]) -> Result<(), Failed>
     ensures ok { OnOk result (Appends (W.contents writer.old) (W.contents writer.new) piece.now) }
     ensures failed { OnErr result

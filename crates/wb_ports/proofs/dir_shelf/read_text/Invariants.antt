@@ -1,5 +1,5 @@
 use Rattle.std.proofs.Common.{◌≤◌, [], length}
-use Rattle.wb_ports.specs.DirShelf.{Moves}
+use Rattle.wb_ports.specs.inner.Moving.{Moves}
 use Rattle.wb_ports.proofs.dir_shelf.read_text.Given as goal
 
 -- each turn moved at least a byte into the text

@@ -1,6 +1,6 @@
 use Rattle.std.proofs.Common.{◌≡◌, Some, None, option_copied, ap, sym, ◌∙◌, rules}
 use Rattle.std.specs.List.{position}
-use Rattle.wb_ports.proofs.MemFiles.{is_named, found, missing}
+use Rattle.wb_ports.proofs.MemShelfLemmas.{is_named, found, missing}
 use Rattle.wb_ports.proofs.mem_shelf.bytes_of.Goals as goal
 
 pub returns-in_err-place : goal.returns-in_err-place
@@ -11,4 +11,5 @@ returns-in_err-place c =
 pub returns : goal.returns
 returns c =
     let some : position (is_named c.args.name.now) c.args.files.now ≡ Some c.in_ok-place.place = search rules in
-    ap Some c.deref.ensures.value ∙ sym (found c.args.files.now c.args.name.now c.in_ok-place.place c.index-files-place.result some)
+    ap Some c.deref.ensures.value ∙ sym
+    (found c.args.files.now c.args.name.now c.in_ok-place.place c.index-files-place.result some)

@@ -1,6 +1,6 @@
 use Rattle.std.proofs.Common.{◌≡◌, Some, rules}
 use Rattle.std.specs.List.{position}
-use Rattle.wb_ports.proofs.MemFiles.{is_named, removed}
+use Rattle.wb_ports.proofs.MemShelfLemmas.{is_named, removed}
 use Rattle.wb_ports.proofs.mem_shelf.discard.Goals as goal
 
 pub returns-in-Some-clause-others : goal.returns-in-Some-clause-others

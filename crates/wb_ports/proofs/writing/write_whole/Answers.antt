@@ -1,6 +1,7 @@
 use Rattle.std.proofs.Common.{[], ◌++◌, take}
 use Rattle.std.specs.Io.KnownBytes.{Appends}
-use Rattle.wb_ports.proofs.Written.{appends_on, parts_on, is_front_still, on_err}
+use Rattle.wb_ports.proofs.HeldLemmas.{on_err}
+use Rattle.wb_ports.proofs.WritingLemmas.{appends_on, parts_on, is_prefix_still}
 use Rattle.wb_ports.proofs.writing.write_whole.Goals as goal
 
 pub loop-rest-preserved : goal.loop-rest-preserved
@@ -12,5 +13,6 @@ loop-rest-preserved g c = record {
 
 pub returns-in_err-count-clause-failed : goal.returns-in_err-count-clause-failed
 returns-in_err-count-clause-failed g c =
-    let nothing : Appends (g.W.Write.contents c.loop-rest.writer) (g.W.Write.contents c.write_some.new.writer) [] = c.in_err-count.ensures.failed in
-    on_err _ _ (is_front_still _ _ _ _ _ _ c.loop-rest.invariant.parts c.loop-rest.invariant.appended nothing)
+    let nothing : Appends (g.W.Write.contents c.loop-rest.writer) (g.W.Write.contents c.write_some.new.writer) [] =
+    c.in_err-count.ensures.failed in
+    on_err _ (is_prefix_still _ _ _ _ _ _ c.loop-rest.invariant.parts c.loop-rest.invariant.appended nothing)

@@ -1,4 +1,4 @@
-use Rattle.wb_ports.proofs.MemFiles.{wider}
+use Rattle.wb_ports.proofs.MemShelfLemmas.{wider}
 use Rattle.wb_ports.proofs.mem_shelf.MemShelfShelf.close.Goals as goal
 
 pub invariant_of-self : goal.invariant_of-self

@@ -1,5 +1,5 @@
 use Rattle.std.proofs.Common.{arith}
-use Rattle.wb_ports.proofs.MemFiles.{wider}
+use Rattle.wb_ports.proofs.MemShelfLemmas.{wider}
 use Rattle.wb_ports.proofs.mem_shelf.MemShelfShelf.load.Goals as goal
 
 pub invariant_of-self : goal.invariant_of-self

@@ -1,0 +1,3 @@
+-- How the objects of this crate keep what their contracts see. No public contract cites this.
+pub mod MemShelfKept
+pub mod Moving
