@@ -4,7 +4,7 @@ use Rattle.wb_base.specs.declared.places.FileTag.{FileTag}
 use Rattle.wb_base.specs.declared.places.FileTag.TheVariants.{Web, Change}
 use Rattle.wb_base.specs.declared.faults.Fault.{Fault}
 use Rattle.change_merge.specs.Lines.{Line, all_lines, lines_of}
-use Rattle.change_merge.specs.Steps.{◌>>=◌}
+use Rattle.wb_base.specs.Steps.{◌>>=◌}
 use Rattle.change_merge.specs.Changes.{blocks_of, changes_of}
 use Rattle.change_merge.specs.Merge.{merge_of}
 
@@ -26,7 +26,8 @@ line_of tag number bytes = record { place = record { file = tag; line = number }
 abbrev fault_of_change : ℕ → ℕ → Result (List Line) Fault
 fault_of_change code number = Err (record { code = code; file = Change; line = number; which = 0 })
 
-pub replaced : merged a_web (codes "@x" ∷ [] ∷ codes "b" ∷ codes "@y" ∷ codes "n" ∷ codes "@z" ∷ []) ≡ Ok (line_of Web 1 (codes "a") ∷ line_of Change 5 (codes "n") ∷ line_of Web 3 (codes "c") ∷ [])
+pub replaced : merged a_web (codes "@x" ∷ [] ∷ codes "b" ∷ codes "@y" ∷ codes "n" ∷ codes "@z" ∷ []) ≡ Ok
+    (line_of Web 1 (codes "a") ∷ line_of Change 5 (codes "n") ∷ line_of Web 3 (codes "c") ∷ [])
 unfolding lines_of all_lines blocks_of changes_of merge_of
 replaced = refl
 
@@ -50,7 +51,8 @@ pub not_found : merged a_web (codes "@x" ∷ codes "d" ∷ codes "@y" ∷ codes 
 unfolding lines_of all_lines blocks_of changes_of merge_of
 not_found = refl
 
-pub lines_differ : merged a_web (codes "@x" ∷ codes "b" ∷ codes "d" ∷ codes "@y" ∷ codes "@z" ∷ []) ≡ fault_of_change 7 3
+pub lines_differ : merged a_web (codes "@x" ∷ codes "b" ∷ codes "d" ∷ codes "@y" ∷ codes "@z" ∷ [])
+    ≡ fault_of_change 7 3
 unfolding lines_of all_lines blocks_of changes_of merge_of
 lines_differ = refl
 
@@ -58,11 +60,14 @@ pub web_ended : merged a_web (codes "@x" ∷ codes "c" ∷ codes "d" ∷ codes "
 unfolding lines_of all_lines blocks_of changes_of merge_of
 web_ended = refl
 
-pub without_blocks : merged a_web (codes "text" ∷ []) ≡ Ok (line_of Web 1 (codes "a") ∷ line_of Web 2 (codes "b") ∷ line_of Web 3 (codes "c") ∷ [])
+pub without_blocks : merged a_web (codes "text" ∷ []) ≡ Ok
+    (line_of Web 1 (codes "a") ∷ line_of Web 2 (codes "b") ∷ line_of Web 3 (codes "c") ∷ [])
 unfolding lines_of all_lines blocks_of changes_of merge_of
 without_blocks = refl
 
 -- the first block's new line is no line of the web to the second block
-pub new_line_not_matched : merged a_web (codes "@x" ∷ codes "c" ∷ codes "@y" ∷ codes "d" ∷ codes "@z" ∷ codes "@x" ∷ codes "d" ∷ codes "@y" ∷ codes "@z" ∷ []) ≡ fault_of_change 6 6
+pub new_line_not_matched : merged a_web
+    (codes "@x" ∷ codes "c" ∷ codes "@y" ∷ codes "d" ∷ codes "@z" ∷ codes "@x" ∷ codes "d" ∷ codes "@y" ∷ codes "@z" ∷
+    []) ≡ fault_of_change 6 6
 unfolding lines_of all_lines blocks_of changes_of merge_of
 new_line_not_matched = refl

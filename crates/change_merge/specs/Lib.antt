@@ -1,7 +1,11 @@
+pub use Rattle.wb_base.specs.FaultAt
+pub use Rattle.wb_base.specs.Bytes
+pub use Rattle.wb_base.specs.Pieces
+pub use Rattle.wb_base.specs.Steps
+pub use Rattle.wb_base.specs.WorkResult
 pub mod ChangeRows
 pub mod Changes
 pub mod LineRows
 pub mod Lines
 pub mod Merge
-pub mod Spans
-pub mod Steps
+pub mod inner

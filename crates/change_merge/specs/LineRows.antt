@@ -8,7 +8,8 @@ abbrev line_of_web : ℕ → List ℕ → Line
 line_of_web number bytes = record { place = record { file = Web; line = number }; bytes = bytes }
 
 -- white space at a line's end goes, and what follows the last byte 10 is a line
-pub two_lines : lines_of Web (codes " a \t" ++ 10 ∷ codes "b") ≡ Ok (line_of_web 1 (codes " a") ∷ line_of_web 2 (codes "b") ∷ [])
+pub two_lines : lines_of Web (codes " a \t" ++ 10 ∷ codes "b") ≡ Ok
+    (line_of_web 1 (codes " a") ∷ line_of_web 2 (codes "b") ∷ [])
 unfolding lines_of all_lines
 two_lines = refl
 

@@ -1,16 +1,18 @@
 //! The blocks of a change file, as indexes of its lines.
-ghost use Rattle.std.specs.Prelude.{◌≡◌, ◌+◌, ◌<◌, ◌≤◌, IfOk, Ok, Err, Some, [], ◌∷◌, All, length, drop};
+ghost use Rattle.std.specs.Prelude.{◌≡◌, ◌+◌, ◌<◌, ◌≤◌, [], ◌∷◌, All, length, drop};
+ghost use Rattle.std.specs.Prelude.{IfOk, Ok, Err, Some};
 ghost use Rattle.std.specs.List.{prefix_len, before_first};
 ghost use Rattle.wb_base.specs.WorkResult.{IfFault};
 ghost use Rattle.change_merge.specs.declared.marks.Mark.TheVariants.{Old};
-ghost use Rattle.change_merge.specs.Steps.{followed_by};
+ghost use Rattle.wb_base.specs.Steps.{followed_by};
 ghost use Rattle.change_merge.specs.Changes.{part, parts_of, blocks_of, has_mark, is_empty};
-ghost use Rattle.change_merge.specs.Spans.{lines_at, mark_there, change_at, changes_at, AllInside, IsInOrder};
+ghost use Rattle.change_merge.specs.inner.Spans.{lines_at, mark_there, change_at, changes_at, AllInside, IsInOrder};
 
 use crate::marks::{Mark, is_mark_at, mark_at, next_mark};
-use crate::spans::{Span, fault_at, line_bytes};
+use crate::spans::{Span, line_bytes};
 use std::alloc::Global;
-use wb_base::{Place, WorkErr};
+use wb_base::faults::{EMPTY_CHANGE, NO_END_OF_CHANGE, NO_NEW_PART, STRAY_CHANGE_MARK};
+use wb_base::{Fault, Place, WorkErr};
 
 // A block: the place of its `@x`, and the indexes of its first old line, its `@y` and its `@z`.
 #[derive(Clone, Copy)]
@@ -56,14 +58,14 @@ fn block_at(text: &[u8], spans: &[Span], index: usize, mark: Mark) -> Result<Blo
         blocks_of (parts_of (drop index lines))
         ≡ followed_by (change_at lines block ∷ []) (blocks_of (parts_of (drop (block.end_mark + 1) lines)))) }
     ensures in_order { IfOk result (λ block. IsInOrder (length spans.now) block) }
-    ensures behind { IfOk result (λ block. index < block.end_mark) }
+    ensures after { IfOk result (λ block. index < block.end_mark) }
     ensures fault { IfFault result
         (λ fault. blocks_of (parts_of (drop index (lines_at text.now spans.now))) ≡ Err fault) }
 {
     let place = spans[index].place;
     match mark {
         Mark::Old => block_from(text, spans, place, index + 1),
-        _ => Err(fault_at(2, place)),
+        _ => Err(Fault::at(STRAY_CHANGE_MARK, place).into()),
     }
 }
 
@@ -77,22 +79,22 @@ fn block_from(text: &[u8], spans: &[Span], place: Place, from: usize) -> Result<
         blocks_of (part Old place (before_first has_mark rest) ∷ parts_of rest)
         ≡ followed_by (change_at lines block ∷ []) (blocks_of (parts_of (drop (block.end_mark + 1) lines)))) }
     ensures in_order { IfOk result (λ block. IsInOrder (length spans.now) block) }
-    ensures behind { IfOk result (λ block. from < block.end_mark) }
+    ensures after { IfOk result (λ block. from < block.end_mark) }
     ensures fault { IfFault result (λ fault.
         let rest = drop from (lines_at text.now spans.now) in
         blocks_of (part Old place (before_first has_mark rest) ∷ parts_of rest) ≡ Err fault) }
 {
     let new_mark = next_mark(text, spans, from);
     if !is_mark_at(text, spans, new_mark, Mark::New) {
-        return Err(fault_at(3, place));
+        return Err(Fault::at(NO_NEW_PART, place).into());
     }
     let first_old = from + empty_lines(text, &spans[from..new_mark]);
     if first_old == new_mark {
-        return Err(fault_at(5, place));
+        return Err(Fault::at(EMPTY_CHANGE, place).into());
     }
     let end_mark = next_mark(text, spans, new_mark + 1);
     if !is_mark_at(text, spans, end_mark, Mark::End) {
-        return Err(fault_at(4, place));
+        return Err(Fault::at(NO_END_OF_CHANGE, place).into());
     }
     Ok(Block {
         place,

@@ -1,6 +1,6 @@
 //! Lists of lines.
 ghost use Rattle.std.specs.Prelude.{◌≡◌, ◌<◌, Some, length, map, slice_get};
-ghost use Rattle.change_merge.specs.Spans.{lines_at, AllInside};
+ghost use Rattle.change_merge.specs.inner.Spans.{lines_at, AllInside};
 
 use crate::spans::{Span, line_bytes};
 use std::marker::Model;
@@ -20,7 +20,7 @@ impl Model for Lines {
 
     ghost Value = { List Line };
 
-    ghost use Rattle.change_merge.specs.Spans.{lines_at, AllInside};
+    ghost use Rattle.change_merge.specs.inner.Spans.{lines_at, AllInside};
 
     ghost view = { λ list. lines_at list.text.items list.spans.items };
 

@@ -2,11 +2,11 @@
 ghost use Rattle.std.specs.Prelude.{◌≡◌, ◌+◌, ◌≤◌, ◌↔◌, IsTrue, Some, length, drop};
 ghost use Rattle.std.specs.List.{position_or_len};
 ghost use Rattle.change_merge.specs.Changes.{mark_of, mark_of_letter, has_mark};
-ghost use Rattle.change_merge.specs.Spans.{lines_at, mark_there, AllInside};
+ghost use Rattle.change_merge.specs.inner.Spans.{lines_at, mark_there, AllInside};
 
 use crate::spans::{Span, line_bytes};
 
-// What a mark begins: `@x` the old part of a block, `@y` its new part, `@z` what stands behind it.
+// What a mark begins: `@x` the old part of a block, `@y` its new part, `@z` what stands after it.
 #[derive(Clone, Copy, PartialEq, Eq)]
 pub(crate) enum Mark {
     Old,
@@ -24,7 +24,7 @@ fn mark_of(bytes: &[u8]) -> Option<Mark>
     }
 }
 
-// The mark of the letter behind an at sign.
+// The mark of the letter after an at sign.
 fn mark_of_letter(letter: u8) -> Option<Mark>
     ensures { result ≡ mark_of_letter letter }
 {

@@ -1,21 +1,24 @@
 //! The merge of a web with a change file.
-ghost use Rattle.std.specs.Prelude.{◌≡◌, ◌+◌, ◌-◌, ◌≤◌, IfOk, Result, Ok, Err, List, ◌++◌, All, length, drop, slice_range};
+ghost use Rattle.std.specs.Prelude.{◌≡◌, ◌+◌, ◌-◌, ◌≤◌, List, ◌++◌, All, length, drop, slice_range};
+ghost use Rattle.std.specs.Prelude.{IfOk, Result, Ok, Err};
 ghost use Rattle.std.specs.List.{position_or_len};
 ghost use Rattle.std.specs.Str.{bytes_eq};
 ghost use Rattle.wb_base.specs.declared.faults.Fault.{Fault};
 ghost use Rattle.wb_base.specs.WorkResult.{IfFault};
 ghost use Rattle.change_merge.specs.Lines.{Line};
-ghost use Rattle.change_merge.specs.Steps.{followed_by};
-ghost use Rattle.change_merge.specs.Merge.{lines_behind, with_change, with_changes, merge_of};
-ghost use Rattle.change_merge.specs.Spans.{lines_at, change_at, changes_at, AllInside, IsInOrder};
+ghost use Rattle.wb_base.specs.Steps.{followed_by};
+ghost use Rattle.change_merge.specs.Merge.{lines_after, with_change, with_changes, merge_of};
+ghost use Rattle.change_merge.specs.inner.Spans.{lines_at, change_at, changes_at, AllInside, IsInOrder};
 
 use crate::blocks::Block;
-use crate::spans::{Span, fault_at, line_bytes, spans_of};
+use crate::cutting::lines;
+use crate::spans::{Span, check_length, line_bytes, spans_of};
 use crate::{Changes, Lines};
 use std::alloc::{AllocError, Global};
-use wb_base::{FileTag, WorkErr};
+use wb_base::faults::{CHANGE_LINES_DIFFER, CHANGE_NOT_FOUND};
+use wb_base::{Fault, FileTag, WorkErr};
 
-/// The lines of a web with the blocks of a change file. The next block applies at the first line of the web, behind
+/// The lines of a web with the blocks of a change file. The next block applies at the first line of the web, after
 /// the block before, that equals its first old line. Its other old lines must be the next lines of the web. Its new
 /// lines stand in place of its old ones, keep their places in the change file, and are not matched again.
 ///
@@ -27,22 +30,23 @@ pub fn merge(alloc: Global, web: &[u8], changes: &Changes) -> Result<Lines, Work
     ensures ok { IfOk result (λ lines. merge_of web.now changes.now ≡ Ok lines) }
     ensures fault { IfFault result (λ fault. merge_of web.now changes.now ≡ Err fault) }
 {
+    if changes.blocks.is_empty() {
+        return lines(alloc, FileTag::Web, web);
+    }
+    check_length(FileTag::Web, web)?;
     let text = joined(alloc, &changes.text, web)?;
     let web_spans = spans_of(alloc, FileTag::Web, &text, changes.text.len())?;
-    if changes.blocks.is_empty() {
-        return Ok(Lines::new(text, web_spans));
-    }
     let spans = merged_spans(alloc, &text, &web_spans, &changes.spans, &changes.blocks)?;
     Ok(Lines::new(text, spans))
 }
 
-// One text behind another.
-fn joined(alloc: Global, front: &[u8], back: &[u8]) -> Result<Vec<u8>, AllocError>
-    ensures { IfOk result (λ text. text.items ≡ front.now ++ back.now) }
+// One text after another.
+fn joined(alloc: Global, prefix: &[u8], suffix: &[u8]) -> Result<Vec<u8>, AllocError>
+    ensures { IfOk result (λ text. text.items ≡ prefix.now ++ suffix.now) }
 {
-    let mut text = Vec::with_capacity(alloc, front.len() + back.len())?;
-    text.extend_from_slice(front)?;
-    text.extend_from_slice(back)?;
+    let mut text = Vec::with_capacity(alloc, prefix.len() + suffix.len())?;
+    text.extend_from_slice(prefix)?;
+    text.extend_from_slice(suffix)?;
     Ok(text)
 }
 
@@ -109,7 +113,7 @@ fn first_replaced(
     let first_old = line_bytes(text, &change[block.first_old]);
     let first = first_equal(text, web, from, first_old);
     if first == web.len() {
-        return Err(fault_at(6, block.place));
+        return Err(Fault::at(CHANGE_NOT_FOUND, block.place).into());
     }
     compare_others(
         text,
@@ -141,15 +145,15 @@ fn compare_others(text: &[u8], web: &[Span], olds: &[Span]) -> Result<(), WorkEr
     requires web { AllInside text.now web.now }
     requires olds { AllInside text.now olds.now }
     ensures ok { IfOk result (λ _.
-        lines_behind (lines_at text.now olds.now) (lines_at text.now web.now)
+        lines_after (lines_at text.now olds.now) (lines_at text.now web.now)
         ≡ Ok (drop (length olds.now) (lines_at text.now web.now))) }
     ensures within { IfOk result (λ _. length olds.now ≤ length web.now) }
     ensures fault { IfFault result
-        (λ fault. lines_behind (lines_at text.now olds.now) (lines_at text.now web.now) ≡ Err fault) }
+        (λ fault. lines_after (lines_at text.now olds.now) (lines_at text.now web.now) ≡ Err fault) }
 {
     for (index, old) in olds.iter().enumerate() {
         if index == web.len() || line_bytes(text, old) != line_bytes(text, &web[index]) {
-            return Err(fault_at(7, old.place));
+            return Err(Fault::at(CHANGE_LINES_DIFFER, old.place).into());
         }
     }
     Ok(())

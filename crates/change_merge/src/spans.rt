@@ -1,17 +1,16 @@
 //! The spans of a text's lines.
-ghost use Rattle.std.specs.Prelude.{◌≡◌, ◌==◌, ◌≤◌, IfOk, Ok, Err, length, drop, count_by};
+ghost use Rattle.std.specs.Prelude.{◌≡◌, ◌==◌, ◌≤◌, IfOk, IfErr, OnOk, Ok, Err, length, drop, count_by};
 ghost use Rattle.std.specs.List.{position_or_len};
 ghost use Rattle.wb_base.specs.WorkResult.{IfFault};
-ghost use Rattle.change_merge.specs.Lines.{lines_of, is_white, without_white_at_end, file_too_long};
-ghost use Rattle.wb_base.specs.FaultAt.{fault_at};
-ghost use Rattle.change_merge.specs.Spans.{line_at, lines_at, IsWithin, AllInside};
+ghost use Rattle.change_merge.specs.Lines.{lines_of, without_white_at_end};
+ghost use Rattle.wb_base.specs.Bytes.{is_white};
+ghost use Rattle.change_merge.specs.inner.Spans.{line_at, lines_at, IsWithin, AllInside};
 
 use std::alloc::Global;
-use wb_base::{Fault, FileTag, Place, WorkErr};
+use wb_base::faults::{LIMIT_FILE_BYTES, LINE_TOO_LONG};
+use wb_base::{FILE_LIMIT, Fault, FileTag, Place, WorkErr};
 
-// The most bytes of a file, and of a line after the white space at its end was removed.
-const FILE_LIMIT: usize = 16_777_216;
-
+// The most bytes of a line after the white space at its end was removed.
 const LINE_LIMIT: usize = 3000;
 
 // The place of a line, and where its bytes begin and end in the text that holds it.
@@ -30,15 +29,13 @@ pub(crate) fn spans_of(
     from: usize,
 ) -> Result<Vec<Span>, WorkErr>
     requires within { from ≤ length text.now }
-    requires small { from ≤ 16777216 }
+    requires small { from ≤ FILE_LIMIT }
     ensures ok { IfOk result
         (λ spans. lines_of tag (drop from text.now) ≡ Ok (lines_at text.now spans.items)) }
     ensures inside { IfOk result (λ spans. AllInside text.now spans.items) }
     ensures fault { IfFault result (λ fault. lines_of tag (drop from text.now) ≡ Err fault) }
 {
-    if text.len() - from > FILE_LIMIT {
-        return Err(file_too_long(tag));
-    }
+    check_length(tag, &text[from..])?;
     let mut spans = Vec::with_capacity(alloc, line_ends(&text[from..]) + 1)?;
     let mut start = from;
     while start < text.len() {
@@ -50,7 +47,7 @@ pub(crate) fn spans_of(
             line: spans.len() as u32 + 1,
         };
         if size > LINE_LIMIT {
-            return Err(fault_at(1, place));
+            return Err(Fault::at(LINE_TOO_LONG, place).into());
         }
         spans.push(Span {
             place,
@@ -60,6 +57,18 @@ pub(crate) fn spans_of(
         start += width + 1;
     }
     Ok(spans)
+}
+
+// Refuses a file that is longer than its limit.
+pub(crate) fn check_length(tag: FileTag, bytes: &[u8]) -> Result<(), Fault>
+    ensures ok { OnOk result (length bytes.now ≤ FILE_LIMIT) }
+    ensures fault { IfErr result (λ fault. lines_of tag bytes.now ≡ Err fault) }
+{
+    if bytes.len() > FILE_LIMIT {
+        let whole = Place { file: tag, line: 0 };
+        return Err(Fault::limit(LIMIT_FILE_BYTES, whole));
+    }
+    Ok(())
 }
 
 // The bytes of the line at a span of the text.
@@ -105,23 +114,4 @@ fn is_white(byte: u8) -> bool
     ensures { result ≡ is_white byte }
 {
     matches!(byte, b' ' | b'\t' | b'\r')
-}
-
-// The fault of a file that is longer than its limit.
-fn file_too_long(tag: FileTag) -> WorkErr
-    ensures { result ≡ WorkErr.Fault (file_too_long tag) }
-{
-    WorkErr::Fault(Fault {
-        code: 28,
-        file: tag,
-        line: 0,
-        which: 1,
-    })
-}
-
-// The fault of this number at a place.
-pub(crate) fn fault_at(code: u16, place: Place) -> WorkErr
-    ensures { result ≡ WorkErr.Fault (fault_at code place) }
-{
-    WorkErr::Fault(Fault::at(code, place))
 }

@@ -2,24 +2,34 @@
 use crate::{Lines, lines, merge, parse_changes};
 use std::alloc::Global;
 use std::test::Fail;
+use wb_base::faults::LINE_TOO_LONG;
 use wb_base::{Fault, FileTag, OutOfMemory, Place, Text, WorkErr};
+
+// A text, and its lines as `shown_lines` shows them.
+#[derive(Clone, Copy)]
+struct Cut {
+    text: &'static [u8],
+    lines: &'static [u8],
+}
 
 #[test]
 fn cuts_texts(rt: HostRuntime) -> Result<(), Fail> {
-    let rows: [(&[u8], &[u8]); 9] = [
-        (b"", b""),
-        (b"ab", b"1:ab|"),
-        (b"ab\n", b"1:ab|"),
-        (b"a \t\r\nb", b"1:a|2:b|"),
-        (b"\n\n", b"1:|2:|"),
-        (b" \t\n\r\r", b"1:|2:|"),
-        (b" a b \n\n\tc", b"1: a b|2:|3:\tc|"),
-        (b"a\x0c\nb\0\n", b"1:a\x0c|2:b\0|"),
-        (b"a\r\n \n", b"1:a|2:|"),
+    #[rattlefmt::skip]
+    let rows = [
+        Cut { text: b"", lines: b"" },
+        Cut { text: b"ab", lines: b"1:ab|" },
+        Cut { text: b"ab\n", lines: b"1:ab|" },
+        Cut { text: b"a \t\r\nb", lines: b"1:a|2:b|" },
+        Cut { text: b"\n\n", lines: b"1:|2:|" },
+        Cut { text: b" \t\n\r\r", lines: b"1:|2:|" },
+        Cut { text: b" a b \n\n\tc", lines: b"1: a b|2:|3:\tc|" },
+        Cut { text: b"a\x0c\nb\0\n", lines: b"1:a\x0c|2:b\0|" },
+        Cut { text: b"a\r\n \n", lines: b"1:a|2:|" },
     ];
-    for (text, shown) in rows {
-        let list = lines(rt.alloc(), FileTag::Pool, text)?;
-        assert_eq!(rt; shown_lines(rt.alloc(), &list)?.bytes(), shown);
+    for (index, row) in rows.iter().enumerate() {
+        let list = lines(rt.alloc(), FileTag::Pool, row.text)?;
+        let shown = shown_lines(rt.alloc(), &list)?;
+        assert_eq!(rt; (index, shown.bytes()), (index, row.lines));
     }
     Ok(())
 }
@@ -36,71 +46,83 @@ fn tells_places(rt: HostRuntime) -> Result<(), Fail> {
     Ok(())
 }
 
+// An empty line, then so many letters and this end, and the line that is too long, or 0.
+#[derive(Clone, Copy)]
+struct Long {
+    letters: usize,
+    end: &'static [u8],
+    line: u32,
+}
+
 #[test]
 fn limits_lines(rt: HostRuntime) -> Result<(), Fail> {
-    let rows: [(usize, &[u8], u32); 5] = [
-        (3000, b"", 0),
-        (3001, b"", 2),
-        (3000, b"  \t\r\n", 0),
-        (2999, b" x", 2),
-        (3000, b"\nx\n", 0),
+    #[rattlefmt::skip]
+    let rows = [
+        Long { letters: 3000, end: b"", line: 0 },
+        Long { letters: 3001, end: b"", line: 2 },
+        Long { letters: 3000, end: b"  \t\r\n", line: 0 },
+        Long { letters: 2999, end: b" x", line: 2 },
+        Long { letters: 3000, end: b"\nx\n", line: 0 },
     ];
-    for (letters, end, line) in rows {
+    for (index, row) in rows.iter().enumerate() {
         let mut text = Text::new(rt.alloc());
         text.push(b'\n')?;
-        for _ in 0..letters {
+        for _ in 0..row.letters {
             text.push(b'x')?;
         }
-        text.push_all(end)?;
-        assert_eq!(rt; line_of_fault(rt.alloc(), text.bytes())?, line);
+        text.push_all(row.end)?;
+        let line = line_of_fault(rt.alloc(), text.bytes())?;
+        assert_eq!(rt; (index, line), (index, row.line));
     }
     Ok(())
 }
 
+// A web of three lines, and a change file that applies to its second.
+const PROGRAM: &[u8] = b"@ @p program t;\nbegin\nend.\n";
+
+const APPLIED: &[u8] = b"w1:@ @p program t;|c6:begin end.|";
+
+// A web, a change file, and the merged lines or the fault, as `merged` shows them.
+#[derive(Clone, Copy)]
+struct Merge {
+    web: &'static [u8],
+    change: &'static [u8],
+    answer: &'static [u8],
+}
+
 #[test]
 fn merges_changes(rt: HostRuntime) -> Result<(), Fail> {
-    let web: &[u8] = b"@ @p program t;\nbegin\nend.\n";
-    let rows: [(&[u8], &[u8], &[u8]); 25] = [
-        (web, b"@x\n\nbegin\nend;\n@y\nbegin end.\n@z\n", b"F7 c4"),
-        (
-            web,
-            b"@x\n\nbegin\nend.\n@y\nbegin end.\n@z\n",
-            b"w1:@ @p program t;|c6:begin end.|",
-        ),
-        (web, b"@x\n\nstart\nend.\n@y\nbegin end.\n@z\n", b"F6 c1"),
-        (web, b"@x\n\nbegin\nend.\n@z\nbegin end.\n@z\n", b"F3 c1"),
-        (
-            b"@ @p aa",
-            b"@x\n@ @p aa\n@y\n@ @p\na+b\n@z",
-            b"c4:@ @p|c5:a+b|",
-        ),
-        (b"a", b"@X rest\na\n@Yrest\nb\n@Z\n", b"c4:b|"),
-        (b"a", b"text\n@y", b"F2 c2"),
-        (b"a", b"@x\na\n@y\n@z\n@Z\n@x", b"F2 c5"),
-        (b"a", b"@x", b"F3 c1"),
-        (b"a", b"@x\n@z", b"F3 c1"),
-        (b"a", b"@x\na\n@x\na\n@y", b"F3 c1"),
-        (b"a", b"text\n@x\n\n \n@y\n@z", b"F5 c2"),
-        (b"a", b"@x\n@y", b"F5 c1"),
-        (b"a", b"@x\na\n@y\nb\n@y", b"F4 c1"),
-        (b"a", b"@x\na\n@y\nb", b"F4 c1"),
-        (b"a\nb", b"text\n\n@ and more", b"w1:a|w2:b|"),
-        (b"a\nb", b"", b"w1:a|w2:b|"),
-        (b"a\nb", b"@x\nb\nc\n@y\n@z", b"F7 c3"),
-        (b"a\nb", b"@x\nb\n@y\n@z\n@x\na\n@y\n@z", b"F6 c5"),
-        (b"a\nb", b"@x\na\nc\n@y\n@z\n@x\nd\n@y\n@z", b"F7 c3"),
-        (b"a \nb", b"@x\na\t\n@y\nc\n@z", b"c4:c|w2:b|"),
-        (b"a\n\nb", b"@x\na\n\nb\n@y\n@z", b""),
-        (b"a\nb", b"@x\na\n\nb\n@y\n@z", b"F7 c3"),
-        (
-            b"a\nb",
-            b"@x\na\n@y\nb\n@z\n@x\nb\n@y\nc\n@z",
-            b"c4:b|c9:c|",
-        ),
-        (b"a\na", b"@x\na\n@y\nb\n@z", b"c4:b|w2:a|"),
+    #[rattlefmt::skip]
+    let rows = [
+        Merge { web: PROGRAM, change: b"@x\n\nbegin\nend;\n@y\nbegin end.\n@z\n", answer: b"F7 c4" },
+        Merge { web: PROGRAM, change: b"@x\n\nbegin\nend.\n@y\nbegin end.\n@z\n", answer: APPLIED },
+        Merge { web: PROGRAM, change: b"@x\n\nstart\nend.\n@y\nbegin end.\n@z\n", answer: b"F6 c1" },
+        Merge { web: PROGRAM, change: b"@x\n\nbegin\nend.\n@z\nbegin end.\n@z\n", answer: b"F3 c1" },
+        Merge { web: b"@ @p aa", change: b"@x\n@ @p aa\n@y\n@ @p\na+b\n@z", answer: b"c4:@ @p|c5:a+b|" },
+        Merge { web: b"a", change: b"@X rest\na\n@Yrest\nb\n@Z\n", answer: b"c4:b|" },
+        Merge { web: b"a", change: b"text\n@y", answer: b"F2 c2" },
+        Merge { web: b"a", change: b"@x\na\n@y\n@z\n@Z\n@x", answer: b"F2 c5" },
+        Merge { web: b"a", change: b"@x", answer: b"F3 c1" },
+        Merge { web: b"a", change: b"@x\n@z", answer: b"F3 c1" },
+        Merge { web: b"a", change: b"@x\na\n@x\na\n@y", answer: b"F3 c1" },
+        Merge { web: b"a", change: b"text\n@x\n\n \n@y\n@z", answer: b"F5 c2" },
+        Merge { web: b"a", change: b"@x\n@y", answer: b"F5 c1" },
+        Merge { web: b"a", change: b"@x\na\n@y\nb\n@y", answer: b"F4 c1" },
+        Merge { web: b"a", change: b"@x\na\n@y\nb", answer: b"F4 c1" },
+        Merge { web: b"a\nb", change: b"text\n\n@ and more", answer: b"w1:a|w2:b|" },
+        Merge { web: b"a\nb", change: b"", answer: b"w1:a|w2:b|" },
+        Merge { web: b"a\nb", change: b"@x\nb\nc\n@y\n@z", answer: b"F7 c3" },
+        Merge { web: b"a\nb", change: b"@x\nb\n@y\n@z\n@x\na\n@y\n@z", answer: b"F6 c5" },
+        Merge { web: b"a\nb", change: b"@x\na\nc\n@y\n@z\n@x\nd\n@y\n@z", answer: b"F7 c3" },
+        Merge { web: b"a \nb", change: b"@x\na\t\n@y\nc\n@z", answer: b"c4:c|w2:b|" },
+        Merge { web: b"a\n\nb", change: b"@x\na\n\nb\n@y\n@z", answer: b"" },
+        Merge { web: b"a\nb", change: b"@x\na\n\nb\n@y\n@z", answer: b"F7 c3" },
+        Merge { web: b"a\nb", change: b"@x\na\n@y\nb\n@z\n@x\nb\n@y\nc\n@z", answer: b"c4:b|c9:c|" },
+        Merge { web: b"a\na", change: b"@x\na\n@y\nb\n@z", answer: b"c4:b|w2:a|" },
     ];
-    for (web, change, answer) in rows {
-        assert_eq!(rt; merged(rt.alloc(), web, change)?.bytes(), answer);
+    for (index, row) in rows.iter().enumerate() {
+        let answer = merged(rt.alloc(), row.web, row.change)?;
+        assert_eq!(rt; (index, answer.bytes()), (index, row.answer));
     }
     Ok(())
 }
@@ -125,7 +147,7 @@ fn line_of_fault(alloc: Global, text: &[u8]) -> Result<u32, WorkErr> {
         Err(
             WorkErr::Fault(
                 Fault {
-                    code: 1,
+                    code: LINE_TOO_LONG,
                     file: FileTag::Web,
                     line,
                     which: 0,

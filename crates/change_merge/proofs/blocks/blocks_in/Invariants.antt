@@ -1,6 +1,6 @@
 -- The blocks so far are those of the lines before this one.
 use Rattle.std.proofs.Common.{◌-◌, length}
-use Rattle.change_merge.proofs.BlocksSoFar.{BlocksSoFar}
+use Rattle.change_merge.proofs.BlocksLemmas.{BlocksSoFar}
 use Rattle.change_merge.proofs.blocks.blocks_in.Given as goal
 
 abbrev pub invariant-loop-index : goal.invariant-loop-index

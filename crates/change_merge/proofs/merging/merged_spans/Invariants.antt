@@ -1,5 +1,5 @@
 -- The spans so far are those of the merge as far as this block.
-use Rattle.change_merge.proofs.Merged.{MergedSoFar}
+use Rattle.change_merge.proofs.WithChangesLemmas.{MergedSoFar}
 use Rattle.change_merge.proofs.merging.merged_spans.Given as goal
 
 abbrev pub invariant-loop-block : goal.invariant-loop-block

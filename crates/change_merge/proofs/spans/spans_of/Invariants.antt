@@ -1,6 +1,6 @@
 -- The lines so far are those at the spans, and the others are those of what is left of the text.
 use Rattle.std.proofs.Common.{◌-◌, length}
-use Rattle.change_merge.proofs.Pieces.{SoFar}
+use Rattle.change_merge.proofs.LinesLemmas.{SoFar}
 use Rattle.change_merge.proofs.spans.spans_of.Given as goal
 
 abbrev pub invariant-loop-start : goal.invariant-loop-start

@@ -1,5 +1,7 @@
 -- Lines as spans of one text, and blocks as rows of such lines. No public contract cites this.
-use Rattle.std.specs.Prelude.{ℕ, ◌+◌, ◌<◌, ◌≤◌, List, [], map, length, slice_get, slice_range, slice_index_or, Option, All}
+use Rattle.wb_base.specs.declared.faults.TheConstants.{FILE_LIMIT}
+use Rattle.std.specs.Prelude.{ℕ, ◌+◌, ◌<◌, ◌≤◌, List, [], map, length, slice_get, slice_range, slice_index_or, Option}
+use Rattle.std.specs.Prelude.{All}
 use Rattle.std.specs.Option.{option_and_then}
 use Rattle.change_merge.specs.declared.marks.Mark.{Mark}
 use Rattle.change_merge.specs.declared.spans.Span.{Span}
@@ -49,6 +51,6 @@ changes_at lines blocks = map (change_at lines) blocks
 
 -- what stands of a change file: its text, its lines and its blocks
 pub record IsChangeFile (text : List ℕ) (spans : List Span) (blocks : List Block) : Type 0 where
-  pub small : length text ≤ 16777216
+  pub small : length text ≤ FILE_LIMIT
   pub inside : AllInside text spans
   pub in_order : All (IsInOrder (length spans)) blocks
