@@ -1,0 +1,15 @@
+pub use Rattle.wb_base.specs.Bytes
+pub use Rattle.wb_base.specs.FaultAt
+pub use Rattle.wb_base.specs.Steps
+pub use Rattle.wb_base.specs.WorkResult
+pub use Rattle.change_merge.specs.Lines
+pub mod Codes
+pub mod Gaps
+pub mod NameRows
+pub mod Raw
+pub mod Reading
+pub mod SectionName
+pub mod SkipAhead
+pub mod Token
+pub mod TokenRows
+pub mod inner
