@@ -1,0 +1,9 @@
+pub mod ByteOrder
+pub mod PrefixPlaces
+pub mod OrderLemmas
+pub mod NewSection
+pub mod Positions
+pub mod NameLemmas
+pub mod FormIndex
+pub mod EntryLemmas
+pub mod ClassTests
