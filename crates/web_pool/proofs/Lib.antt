@@ -1,0 +1,5 @@
+mod EntriesLemmas
+mod GatheringLemmas
+mod PoolLinesLemmas
+mod PoolTextLemmas
+mod StringsLemmas

@@ -1,0 +1,11 @@
+pub use Rattle.wb_base.specs.FaultAt
+pub use Rattle.wb_base.specs.Pieces
+pub use Rattle.wb_ports.specs.Counts
+pub use Rattle.wb_ports.specs.Held
+pub mod Listing
+pub mod ListingRows
+pub mod PoolLines
+pub mod PoolText
+pub mod StringRows
+pub mod Strings
+pub mod inner
