@@ -1,0 +1,10 @@
+pub use Rattle.wb_base.specs.FaultAt
+pub use Rattle.wb_base.specs.WorkResult
+pub mod Definitions
+pub mod Limits
+pub mod Numeric
+pub mod Scan
+pub mod Scanned
+pub mod Sections
+pub mod Texts
+pub mod ScanRows
