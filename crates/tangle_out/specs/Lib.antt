@@ -1,0 +1,11 @@
+pub mod Foldable
+pub mod Folder
+pub mod Folding
+pub mod FoldingRows
+pub mod Packer
+pub mod Packing
+pub mod PackingRows
+pub mod Pieces
+pub mod Runs
+pub mod Units
+pub mod inner
