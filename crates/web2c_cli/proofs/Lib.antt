@@ -1,5 +1,12 @@
-mod FileSteps
-mod Tangles
+mod WritingLemmas
+mod WorkLemmas
+mod ReachingLemmas
+mod TanglingLemmas
+mod ListingLemmas
+mod ConcludingLemmas
+mod NumberLemmas
+mod PartsLemmas
+mod RequestLemmas
+mod ProgramLaws
 mod EarlySteps
 mod RawLines
-mod Endings

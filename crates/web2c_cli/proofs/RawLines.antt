@@ -6,7 +6,9 @@ use Rattle.change_merge.specs.Lines.{Line}
 use Rattle.web2c_cli.specs.Raw.{raw_line, raw_text}
 
 -- the line at an index comes first in what is ahead there
-pub raw_text-at : (lines : List Line) (index : ℕ) (bytes : List ℕ) (place : Place) → slice_get (map (λ line. line.bytes) lines) index ≡ Some bytes → slice_get (map (λ line. line.place) lines) index ≡ Some place
+pub raw_text-at : (lines : List Line) (index : ℕ) (bytes : List ℕ) (place : Place)
+    → slice_get (map (λ line. line.bytes) lines) index ≡ Some bytes
+    → slice_get (map (λ line. line.place) lines) index ≡ Some place
     → raw_text (drop index lines) ≡ raw_line place bytes ++ raw_text (drop (index + 1) lines)
 raw_text-at [] index bytes place at_bytes at_place = absurd cc
 raw_text-at (line ∷ lines) zero bytes place at_bytes at_place =

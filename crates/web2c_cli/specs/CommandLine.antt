@@ -1,81 +1,202 @@
--- The words of a command line and what they ask for. The commands are this project's own.
-use Rattle.std.specs.Prelude.{◌≡◌, ℕ, ◌-◌, ◌==◌, ◌&&◌, not, nat_le, List, [], ◌∷◌, ◌++◌, length, take, drop, codes, Bool, false, if◌then◌else◌, Option, Some, None, refl}
-use Rattle.std.specs.List.{list_all}
+-- The words of a command line, without the program's own name, and what they ask for. The commands, their names and
+-- their options are this project's own.
+use Rattle.std.specs.Prelude.{ℕ, ◌+◌, ◌-◌, ◌*◌, ◌==◌, ◌&&◌, not, nat_le, List, [], ◌∷◌, ◌++◌, length, take, drop, map}
+use Rattle.std.specs.Prelude.{find, position, fold, codes, Bool, true, false, if◌then◌else◌, Option, Some, None}
+use Rattle.std.specs.Prelude.{is_none, option_map, slice_get, count_by}
+use Rattle.std.specs.List.{list_all, filter_map}
+use Rattle.std.specs.Option.{option_map_or}
+use Rattle.std.specs.Char.{is_ascii_digit}
 use Rattle.std.specs.Str.{bytes_eq}
-use Rattle.std.specs.Option.{option_copied}
-use Rattle.web2c_cli.specs.declared.command_line.Command.{Command}
-use Rattle.web2c_cli.specs.declared.command_line.Command.TheVariants.{Tangle, Usage}
+use Rattle.web2c_cli.specs.declared.command_table.Command.{Command}
+use Rattle.web2c_cli.specs.declared.command_table.Command.TheVariants.{Tangle, Pooltype}
+use Rattle.web2c_cli.specs.declared.command_table.NameKind.{NameKind}
+use Rattle.web2c_cli.specs.declared.command_table.NameKind.TheVariants.{Web, File}
+use Rattle.web2c_cli.specs.declared.command_table.Value.{Value}
+use Rattle.web2c_cli.specs.declared.command_table.Value.TheVariants.{Fixed, Number}
+use Rattle.web2c_cli.specs.declared.command_table.Setting.{Setting}
+use Rattle.web2c_cli.specs.FileNames.{is_name_of}
 
--- what a command line asks for: to tangle the web of this name, with the change file of that name if there is one; or
--- nothing that is known
+-- an option of a command: how it is spelled, which setting it gives, and its value, which is fixed or is a number from
+-- the least to the most; options that give the same setting exclude one another
+pub record OptionForm : Type 0 where
+  pub spelling : List ℕ
+  pub which : ℕ
+  pub value : Value
+
+-- a command: its word, how many names it needs, what each name that it may have names, and its options
+pub record CommandForm : Type 0 where
+  pub word : List ℕ
+  pub command : Command
+  pub needed : ℕ
+  pub names : List NameKind
+  pub options : List OptionForm
+
+-- the commands that are built: `tangle WEB [CH]` and `pooltype POOL`
+abbrev pub command_table : List CommandForm
+command_table =
+    record { word = codes "tangle"; command = Tangle; needed = 1; names = Web ∷ File ∷ []; options = [] }
+    ∷ record { word = codes "pooltype"; command = Pooltype; needed = 1; names = File ∷ []; options = [] }
+    ∷ []
+
+-- what a word says, or an option and the word after it: a name, a setting, or nothing that the command knows
+pub data Part : Type 0 where
+  name : List ℕ → Part
+  setting : Setting → Part
+  unknown : Part
+
+-- whether the word is `--`, after which all words are names
+abbrev pub ends_options : List ℕ → Bool
+ends_options word = bytes_eq word (codes "--")
+
+-- whether the word is an option's: it begins with `-`, and is not `-` alone
+abbrev pub is_dashed : List ℕ → Bool
+is_dashed (first ∷ second ∷ others) = first == 45
+is_dashed word = false
+
+-- whether the byte is `=`, which stands between an option and its value
+abbrev pub is_equals_sign : ℕ → Bool
+is_equals_sign byte = byte == 61
+
+-- where the first `=` of the word stands
+abbrev pub equals_sign_in : List ℕ → Option ℕ
+equals_sign_in word = position is_equals_sign word
+
+-- what stands before the first `=` of the word: the spelling of an option
+abbrev pub spelling_in : List ℕ → List ℕ
+spelling_in word = option_map_or (λ index. take index word) (equals_sign_in word) word
+
+-- what stands after the first `=` of the word, if it has one: a value
+abbrev pub value_in : List ℕ → Option (List ℕ)
+value_in word = option_map (λ index. drop (index + 1) word) (equals_sign_in word)
+
+-- the option of the word, by its spelling
+abbrev pub option_of : List OptionForm → List ℕ → Option OptionForm
+option_of options word = find (λ option. bytes_eq option.spelling (spelling_in word)) options
+
+-- whether an option with such a value takes it from the command line
+abbrev pub takes_value : Value → Bool
+takes_value (Fixed value) = false
+takes_value (Number least most) = true
+
+-- the number that is written so, in decimal digits
+abbrev pub number_written : List ℕ → ℕ
+number_written digits = fold (λ number digit. number * 10 + (digit - 48)) 0 digits
+
+-- whether the text is a number within these bounds: digits and nothing else
+abbrev pub is_number_within : ℕ → ℕ → List ℕ → Bool
+is_number_within least most text =
+    not (length text == 0) && list_all is_ascii_digit text
+    && nat_le least (number_written text) && nat_le (number_written text) most
+
+-- what an option says with this value, or without one
+abbrev pub setting_by : ℕ → Value → Option (List ℕ) → Part
+setting_by which (Fixed value) None = setting (record { which = which; value = value })
+setting_by which (Fixed value) (Some text) = unknown
+setting_by which (Number least most) None = unknown
+setting_by which (Number least most) (Some text) =
+    if is_number_within least most text then setting (record { which = which; value = number_written text })
+    else unknown
+
+-- what the word of an option says with this value, or without one
+abbrev pub option_part : List OptionForm → List ℕ → Option (List ℕ) → Part
+option_part options word value =
+    option_map_or (λ option. setting_by option.which option.value value) (option_of options word) unknown
+
+-- whether the word is an option whose value is the next word: one that takes a value, and has no `=`
+abbrev pub takes_next : List OptionForm → List ℕ → Bool
+takes_next options word =
+    is_dashed word && is_none (value_in word) && option_map_or (λ option. takes_value option.value)
+    (option_of options word) false
+
+-- what the word says by itself
+abbrev pub word_part : List OptionForm → List ℕ → Part
+word_part options word = if is_dashed word then option_part options word (value_in word) else name word
+
+-- what the words say after that of the command
+unfoldable pub parts_of : List OptionForm → List (List ℕ) → List Part
+parts_of options [] = []
+parts_of options (word ∷ []) = if ends_options word then [] else word_part options word ∷ []
+parts_of options (word ∷ next ∷ words) =
+    if ends_options word then map name (next ∷ words)
+    else (if takes_next options word then option_part options word (Some next) ∷ parts_of options words
+    else word_part options word ∷ parts_of options (next ∷ words))
+
+-- whether the command knows what is said
+abbrev pub is_known : Part → Bool
+is_known (name word) = true
+is_known (setting given) = true
+is_known unknown = false
+
+-- the name that is said, if it is one
+abbrev pub name_in : Part → Option (List ℕ)
+name_in (name word) = Some word
+name_in (setting given) = None
+name_in unknown = None
+
+-- the setting that is said, if it is one
+abbrev pub setting_in : Part → Option Setting
+setting_in (name word) = None
+setting_in (setting given) = Some given
+setting_in unknown = None
+
+-- whether each name can name what stands at its place, and there are no more names than that
+abbrev pub are_names_of : List NameKind → List (List ℕ) → Bool
+are_names_of kinds [] = true
+are_names_of [] (word ∷ words) = false
+are_names_of (kind ∷ kinds) (word ∷ words) = is_name_of kind word && are_names_of kinds words
+
+-- how often this setting is given
+abbrev pub times_given : ℕ → List Setting → ℕ
+times_given which settings = count_by (λ setting. setting.which == which) settings
+
+-- whether no setting is given twice
+abbrev pub are_given_at_most_once : List OptionForm → List Setting → Bool
+are_given_at_most_once options settings = list_all (λ option. nat_le (times_given option.which settings) 1) options
+
+-- the names of a command line: the first, and the second if there is one
+pub record Names : Type 0 where
+  pub first : List ℕ
+  pub second : Option (List ℕ)
+
+-- the first two of these words, where there is a first
+abbrev pub names_of : List (List ℕ) → Option Names
+names_of [] = None
+names_of (first ∷ others) = Some (record { first = first; second = slice_get others 0 })
+
+-- what a command is asked to do: with which names, and with which settings in the order in which they are given
+pub record Order : Type 0 where
+  pub command : Command
+  pub names : Names
+  pub settings : List Setting
+
+-- what a command line asks for: an order, or nothing that is known
 pub data Request : Type 0 where
-  tangle : List ℕ → Option (List ℕ) → Request
+  ordered : Order → Request
   usage : Request
 
--- a byte that a file's name may have: a visible one, but neither `"` nor a backslash
-abbrev pub is_name_byte : ℕ → Bool
-is_name_byte byte = nat_le 33 byte && nat_le byte 126 && not (byte == 34) && not (byte == 92)
+-- the names that are said, where the command knows all that is said and has that many names of these kinds
+abbrev pub names_for : CommandForm → List Part → Option Names
+names_for form parts =
+    let words = filter_map name_in parts in
+    if list_all is_known parts && are_names_of form.names words && nat_le form.needed (length words)
+    then names_of words else None
 
--- whether the word is a file's name
-abbrev pub is_name : List ℕ → Bool
-is_name word = not (length word == 0) && list_all is_name_byte word
+-- what a command line of this command asks for, that says this after the command
+abbrev pub request_by : CommandForm → List Part → Request
+request_by form parts =
+    let settings = filter_map setting_in parts in
+    if are_given_at_most_once form.options settings
+    then option_map_or (λ names. ordered (record { command = form.command; names = names; settings = settings }))
+    (names_for form parts) usage
+    else usage
 
--- whether the word begins with `-`, as options do
-abbrev pub is_dashed : List ℕ → Bool
-is_dashed [] = false
-is_dashed (byte ∷ bytes) = byte == 45
-
--- the word without this ending, if it has it
-abbrev pub without_ending : List ℕ → List ℕ → List ℕ
-without_ending ending word =
-    let start = length word - length ending in
-    if bytes_eq (drop start word) ending then take start word else word
-
--- the name of a web without `.web`, by which the files are named that are made of it
-abbrev pub base_of : List ℕ → List ℕ
-base_of web = without_ending (codes ".web") web
-
--- the name of the Pascal file
-abbrev pub pascal_name : List ℕ → List ℕ
-pascal_name web = base_of web ++ codes ".p"
-
--- whether the word can name a web: no option, and its base is not empty
-abbrev pub is_web_name : List ℕ → Bool
-is_web_name word = is_name word && not (is_dashed word) && not (length (base_of word) == 0)
-
--- whether the word can name a change file: no option
-abbrev pub is_change_name : List ℕ → Bool
-is_change_name word = is_name word && not (is_dashed word)
-
--- whether the word is the command `tangle`
-abbrev pub is_tangle : List ℕ → Bool
-is_tangle verb = bytes_eq verb (codes "tangle")
-
--- what the words ask for: `tangle`, the name of a web, and maybe that of a change file; all else is a faulty command line
+-- what the words ask for
 unfoldable pub request_of : List (List ℕ) → Request
-request_of (verb ∷ web ∷ []) = if is_tangle verb && is_web_name web then tangle web None else usage
-request_of (verb ∷ web ∷ change ∷ []) =
-    if is_tangle verb && is_web_name web && is_change_name change then tangle web (Some change) else usage
-request_of words = usage
-
--- the request that a command stands for
-abbrev pub request_by : Command → Request
-request_by (Tangle web change) = tangle web.now (option_copied change)
-request_by Usage = usage
+request_of [] = usage
+request_of (word ∷ words) =
+    option_map_or (λ form. request_by form (parts_of form.options words))
+    (find (λ form. bytes_eq form.word word) command_table) usage
 
 -- the line that tells how to call the program, with its byte 10
 abbrev pub usage_line : List ℕ
 usage_line = codes "usage: web2c tangle|pooltype|convert|chain|prun|crun|gen [options] names" ++ 10 ∷ []
-
-pub tangle_row : request_of (codes "tangle" ∷ codes "t.web" ∷ []) ≡ tangle (codes "t.web") None
-unfolding request_of
-tangle_row = refl
-
-pub change_row : request_of (codes "tangle" ∷ codes "t.web" ∷ codes "t.ch" ∷ [])
-    ≡ tangle (codes "t.web") (Some (codes "t.ch"))
-unfolding request_of
-change_row = refl
-
-pub convert_row : request_of (codes "convert" ∷ codes "t.p" ∷ []) ≡ usage
-unfolding request_of
-convert_row = refl

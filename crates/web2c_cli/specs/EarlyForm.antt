@@ -1,21 +1,23 @@
 -- The early form of a web: one section with nothing but a Pascal text, which has words and the signs `;`, `,` and `.`
 -- alone. The section start and `@p` are the WEB profile's; the form, its limits and its faults are this project's own.
-use Rattle.std.specs.Prelude.{ℕ, ◌==◌, ◌&&◌, ◌||◌, not, nat_lt, nat_le, Bool, true, if◌then◌else◌, List, [], ◌∷◌, ◌++◌, length, map, filter, codes, slice_get, Option, Some, None, Result, Ok, Err}
+use Rattle.std.specs.Prelude.{ℕ, ◌==◌, ◌&&◌, ◌||◌, not, nat_lt, nat_le, Bool, true, if◌then◌else◌, List, [], ◌∷◌}
+use Rattle.std.specs.Prelude.{◌++◌, length, map, filter, codes, slice_get, Option, Some, None, Result, Ok, Err}
 use Rattle.std.specs.Option.{option_map, option_or}
 use Rattle.wb_base.specs.declared.places.FileTag.TheVariants.{Web}
 use Rattle.wb_base.specs.declared.places.Place.{Place}
 use Rattle.wb_base.specs.declared.faults.Fault.{Fault}
 use Rattle.wb_base.specs.FaultAt.{fault_at}
+use Rattle.wb_base.specs.declared.faults.TheConstants.{BAD_BYTE, NOT_BUILT_YET}
 use Rattle.change_merge.specs.Steps.{◌>>=◌}
 use Rattle.web2c_cli.specs.Raw.{PlacedByte}
 
 -- the fault of a byte that may not stand in a Pascal text
 abbrev pub bad_byte_at : Place → Fault
-bad_byte_at place = fault_at 8 place
+bad_byte_at place = fault_at BAD_BYTE place
 
 -- the fault of what does not fit the early form
 abbrev pub not_built_at : Place → Fault
-not_built_at place = fault_at 90 place
+not_built_at place = fault_at NOT_BUILT_YET place
 
 -- the fault of a web that does not fit the early form as a whole
 abbrev pub web_not_built : Fault
@@ -41,7 +43,7 @@ is_digit byte = is_within 48 57 byte
 abbrev pub is_letter_or_digit : ℕ → Bool
 is_letter_or_digit byte = is_letter byte || is_digit byte
 
--- the sign that may not stand directly behind itself
+-- the sign that may not stand directly after itself
 unfoldable pub is_dot : ℕ → Bool
 is_dot byte = byte == 46
 
@@ -53,30 +55,30 @@ is_sign byte = byte == 59 || byte == 44 || is_dot byte
 unfoldable pub is_allowed : ℕ → Bool
 is_allowed byte = is_within 32 126 byte || byte == 9
 
--- behind an at sign a space, a tab or `*` begins a section
+-- after an at sign a space, a tab or `*` begins a section
 abbrev pub begins_section : ℕ → Bool
 begins_section code = is_blank code || code == 42
 
--- behind an at sign `p` in either case begins the Pascal text
+-- after an at sign `p` in either case begins the Pascal text
 abbrev pub begins_pascal : ℕ → Bool
 begins_pascal code = code == 112 || code == 80
 
--- what stands behind a byte that passes this test, where an at sign at this place stands before it; in a raw text some
+-- what stands after a byte that passes this test, where an at sign at this place stands before it; in a raw text some
 -- byte does, since a space ends each line
-abbrev pub behind_at_sign : (ℕ → Bool) → Place → List PlacedByte → Result (List PlacedByte) Fault
-behind_at_sign fits sign [] = Err web_not_built
-behind_at_sign fits sign (code ∷ text) = if fits code.byte then Ok text else Err (not_built_at sign)
+abbrev pub after_at_sign : (ℕ → Bool) → Place → List PlacedByte → Result (List PlacedByte) Fault
+after_at_sign fits sign [] = Err web_not_built
+after_at_sign fits sign (code ∷ text) = if fits code.byte then Ok text else Err (not_built_at sign)
 
--- what stands behind an at sign and a byte that passes this test
-abbrev pub behind_code : (ℕ → Bool) → List PlacedByte → Result (List PlacedByte) Fault
-behind_code fits [] = Err web_not_built
-behind_code fits (first ∷ text) =
-    if first.byte == 64 then behind_at_sign fits first.place text else Err (not_built_at first.place)
+-- what stands after an at sign and a byte that passes this test
+abbrev pub after_code : (ℕ → Bool) → List PlacedByte → Result (List PlacedByte) Fault
+after_code fits [] = Err web_not_built
+after_code fits (first ∷ text) =
+    if first.byte == 64 then after_at_sign fits first.place text else Err (not_built_at first.place)
 
--- a text without the blanks at its front
-abbrev pub behind_blanks : List PlacedByte → List PlacedByte
-behind_blanks [] = []
-behind_blanks (byte ∷ text) = if is_blank byte.byte then behind_blanks text else byte ∷ text
+-- a text without the blanks at its start
+abbrev pub after_blanks : List PlacedByte → List PlacedByte
+after_blanks [] = []
+after_blanks (byte ∷ text) = if is_blank byte.byte then after_blanks text else byte ∷ text
 
 -- a part of a Pascal text: a word, with its first byte and the others, or any other byte
 pub data Part : Type 0 where
@@ -112,17 +114,17 @@ abbrev pub fault_of_part : Part → Option Fault
 fault_of_part (Word first others) = fault_of_word first others
 fault_of_part (Single byte) = fault_of_byte byte
 
--- what is wrong directly behind a part: a dot behind a dot
-abbrev pub fault_behind : Part → List Part → Option Fault
-fault_behind (Single byte) (Single next ∷ parts) =
+-- what is wrong directly after a part: a dot after a dot
+abbrev pub fault_between : Part → List Part → Option Fault
+fault_between (Single byte) (Single next ∷ parts) =
     if is_dot byte.byte && is_dot next.byte then Some (not_built_at next.place) else None
-fault_behind part parts = None
+fault_between part parts = None
 
 -- the first fault of these parts, in their order
 abbrev pub first_fault : List Part → Option Fault
 first_fault [] = None
 first_fault (part ∷ parts) =
-    option_or (fault_of_part part) (option_or (fault_behind part parts) (first_fault parts))
+    option_or (fault_of_part part) (option_or (fault_between part parts) (first_fault parts))
 
 -- a part that is written: any but a blank
 abbrev pub is_visible : Part → Bool
@@ -154,11 +156,11 @@ abbrev pub marked_unless : Option Fault → List ℕ → Result (List ℕ) Fault
 marked_unless (Some fault) text = Err fault
 marked_unless None text = within_limit (codes "{1:}" ++ text ++ codes "{:1}")
 
--- the Pascal text of a web: what stands behind a section start at the very front, blanks, and `@p`
+-- the Pascal text of a web: what stands after a section start at the very start, blanks, and `@p`
 unfoldable pub pascal_text : List PlacedByte → Result (List PlacedByte) Fault
 pascal_text text = do
-  behind_start ← behind_code begins_section text
-  behind_code begins_pascal (behind_blanks behind_start)
+  after_start ← after_code begins_section text
+  after_code begins_pascal (after_blanks after_start)
 
 -- what is written for a Pascal text
 unfoldable pub written_text : List PlacedByte → Result (List ℕ) Fault

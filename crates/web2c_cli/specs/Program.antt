@@ -1,123 +1,84 @@
--- What the program answers to a command line, over the files of its shelf. The statuses, the console texts and the
+-- The program: what is done for each request, in its order. The order of work, the statuses, the console texts and the
 -- names of the files are this project's own.
-use Rattle.std.specs.Prelude.{◌≡◌, ◌≢◌, ◌⊎◌, ℕ, List, [], ◌∷◌, ◌++◌, take, Option, Some, None, Result, Ok, Err, IsSome, IsSomeAnd}
+use Rattle.std.specs.Prelude.{ℕ, List, [], ◌∷◌, ◌++◌, codes, Option, Some, None, unwrap_or, Result, Ok, Err}
+use Rattle.std.specs.Prelude.{option_map}
 use Rattle.std.specs.Option.{option_and_then}
 use Rattle.wb_base.specs.declared.places.FileTag.{FileTag}
-use Rattle.wb_base.specs.declared.places.FileTag.TheVariants.{Change}
+use Rattle.wb_base.specs.declared.places.FileTag.TheVariants.{Web, Change, Pool, Pas, Header, Code}
 use Rattle.wb_base.specs.declared.faults.Fault.{Fault}
 use Rattle.wb_base.specs.ConsoleLine.{console_line}
-use Rattle.wb_ports.specs.declared.shelf.FailedCall.{FailedCall}
-use Rattle.wb_ports.specs.declared.shelf.ShelfCall.{ShelfCall}
-use Rattle.wb_ports.specs.declared.shelf.ShelfCall.TheVariants.{Load, Create, Write, Close}
-use Rattle.wb_ports.specs.declared.shelf.TheConstants.{LOAD_LIMIT}
-use Rattle.wb_ports.specs.Held.{Appends, AppendsFront}
-use Rattle.wb_ports.specs.Files.{Files, SameFiles, SameOthers, EmptiesOrKeeps}
-use Rattle.web2c_cli.specs.CommandLine.{Request, tangle, usage, pascal_name, usage_line}
+use Rattle.wb_ports.specs.Files.{Files}
+use Rattle.wb_ports.specs.PortState.{PortState}
+use Rattle.web2c_cli.specs.declared.command_table.Command.{Command}
+use Rattle.web2c_cli.specs.declared.command_table.Command.TheVariants.{Tangle, Pooltype}
+use Rattle.web2c_cli.specs.declared.status.Status.TheVariants.{Done, Refused, Usage}
+use Rattle.web2c_cli.specs.Status.{number_of}
+use Rattle.web2c_cli.specs.FileNames.{output_name, pascal_name, code_name}
+use Rattle.web2c_cli.specs.CommandLine.{Names, Order, Request, ordered, usage, usage_line}
+use Rattle.web2c_cli.specs.Work.{Work, loads, does, leaves, prints, ends, World}
+use Rattle.web_pool.specs.Listing.{Listing, listing}
 use Rattle.web2c_cli.specs.Tangled.{tangled_text}
 
--- a file that is written: its name, and all its bytes
-pub record Output : Type 0 where
-  pub name : List ℕ
-  pub bytes : List ℕ
+-- the name that is printed with a fault in a file: the word that was given for it, or the name of the output
+abbrev pub file_name : Command → Names → FileTag → List ℕ
+file_name Tangle names Web = names.first
+file_name Tangle names Change = unwrap_or names.second names.first
+file_name Tangle names Pool = output_name names.first (codes ".pool")
+file_name Tangle names Pas = pascal_name names.first
+file_name Tangle names Header = output_name names.first (codes ".h")
+file_name Tangle names (Code number) = code_name names.first number
+file_name Pooltype names tag = names.first
 
--- the status that the program ends with, its console text, and the file that it writes, if it writes one
-pub record Answer : Type 0 where
-  pub status : ℕ
-  pub console : List ℕ
-  pub output : Option Output
+-- the line that reports a fault, with its byte 10
+abbrev pub fault_line : Order → Fault → List ℕ
+fault_line order fault = console_line fault (file_name order.command order.names fault.file) ++ 10 ∷ []
 
--- the name that was given for a file of the web's work
-abbrev pub name_given : List ℕ → Option (List ℕ) → FileTag → List ℕ
-name_given web (Some change) Change = change
-name_given web change tag = web
+-- what is done where an input has a fault: its line is printed
+abbrev pub refused : Order → Fault → Work
+refused order fault = does (prints (fault_line order fault)) (ends (number_of Refused))
 
--- status 0 and the Pascal file, or status 1 and the fault's line
-abbrev pub answer_for : List ℕ → Option (List ℕ) → Result (List ℕ) Fault → Answer
-answer_for web change (Ok text) =
-    record { status = 0; console = []; output = Some (record { name = pascal_name web; bytes = text ++ 10 ∷ [] }) }
-answer_for web change (Err fault) =
-    record { status = 1; console = console_line fault (name_given web change fault.file) ++ 10 ∷ []; output = None }
+-- the change file is loaded, if there is one; else it is empty
+abbrev pub loads_change : Option (List ℕ) → (List ℕ → Work) → Work
+loads_change None next = next []
+loads_change (Some name) next = loads name next
 
--- status 2 and the line that tells how to call the program
-abbrev pub usage_answer : Answer
-usage_answer = record { status = 2; console = usage_line; output = None }
+-- the Pascal file is left with this text and a byte 10, and the work goes on with the text; or the fault is reported
+abbrev pub leaving_pascal : Order → List ℕ → Result (List ℕ) Fault → (List ℕ → Work) → Work
+leaving_pascal order web (Ok text) next = does (leaves (pascal_name web) (text ++ 10 ∷ [])) (next (text ++ 10 ∷ []))
+leaving_pascal order web (Err fault) next = refused order fault
 
--- the bytes of the change file, if it is there; without a name of one it is empty
-abbrev pub change_bytes : Option (List ℕ) → Files → Option (List ℕ)
-change_bytes None files = Some []
-change_bytes (Some change) files = files change
+-- a web and its change file are loaded, tangled, and left as Pascal; the work goes on with the Pascal text
+abbrev pub tangling : Order → List ℕ → Option (List ℕ) → (List ℕ → Work) → Work
+tangling order web change next =
+    loads web (λ web_bytes. loads_change change (λ change_bytes.
+    leaving_pascal order web (tangled_text web_bytes change_bytes) next))
 
--- what is loaded of a file's bytes
-abbrev pub loaded : List ℕ → List ℕ
-loaded bytes = take LOAD_LIMIT bytes
+-- the fault is reported, or there is none and the work is done
+abbrev pub refused_by : Order → Option Fault → Work
+refused_by order None = ends (number_of Done)
+refused_by order (Some fault) = refused order fault
 
--- the answer to these bytes of the web and the change file, where both are there
-abbrev pub answer_with : List ℕ → Option (List ℕ) → Option (List ℕ) → Option (List ℕ) → Option Answer
-answer_with web change (Some web_bytes) (Some bytes) =
-    Some (answer_for web change (tangled_text (loaded web_bytes) (loaded bytes)))
-answer_with web change web_bytes bytes = None
+-- a listing is printed, and then its fault is reported, if it has one
+abbrev pub printing_listing : Order → Listing → Work
+printing_listing order wanted = does (prints wanted.text) (refused_by order wanted.fault)
 
--- the answer to a request over these files; there is none where an input is missing
-abbrev pub answer_of : Request → Files → Option Answer
-answer_of (tangle web change) files = answer_with web change (files web) (change_bytes change files)
-answer_of usage files = Some usage_answer
+-- what each command does
+abbrev pub command_work : Command → Order → Work
+command_work Tangle order = tangling order order.names.first order.names.second (λ text. ends (number_of Done))
+command_work Pooltype order = loads order.names.first (λ bytes. printing_listing order (listing bytes))
 
--- the file is there with just its bytes, and every other is as it was
-abbrev pub Leaves : Option Output → Files → Files → Type 0
-Leaves None before now = SameFiles before now
-Leaves (Some output) before now = (now output.name ≡ Some output.bytes) × SameOthers output.name before now
+-- what the program does for a request
+abbrev pub work_of : Request → Work
+work_of (ordered order) = command_work order.command order
+work_of usage = does (prints usage_line) (ends (number_of Usage))
 
--- a run that ended by itself: its status, console text and files are those of the answer
-pub record Finishes (answer : Answer) (status : ℕ) (before now : Files) (held holds : Option (List ℕ)) : Type 0 where
-  pub same_status : status ≡ answer.status
-  pub console : Appends answer.console held holds
-  pub files : Leaves answer.output before now
+-- the bytes of each port, where all ports tell them
+abbrev pub port_bytes : {P : Type 0} → (P → Option PortState) → List P → Option (List (List ℕ))
+port_bytes told [] = Some []
+port_bytes told (port ∷ ports) =
+    option_and_then (λ (state : PortState). option_map (λ others. state.bytes ∷ others) (port_bytes told ports))
+    (told port)
 
--- a request has an answer, and it is the one by which the run ended
-abbrev pub FinishesBy : Request → ℕ → Option (List ℕ) → Option (List ℕ) → Files → Files → Type 0
-FinishesBy request status held holds before now =
-    IsSomeAnd (answer_of request before) (λ answer. Finishes answer status before now held holds)
-
--- the file holds a front of its bytes, and every other is as it was
-abbrev pub HoldsFront : Output → Files → Files → Type 0
-HoldsFront output before now =
-    ((n : ℕ) × (now output.name ≡ Some (take n output.bytes))) × SameOthers output.name before now
-
--- what a failed call leaves of the file that is written: it is as it was or empty where its creation failed, else it
--- holds a front of its bytes
-abbrev pub LeavesUnfinished : Output → ShelfCall → Files → Files → Type 0
-LeavesUnfinished output Load before now = ⊥
-LeavesUnfinished output Create before now = EmptiesOrKeeps output.name before now
-LeavesUnfinished output Write before now = HoldsFront output before now
-LeavesUnfinished output Close before now = HoldsFront output before now
-
--- the failed call is one by which this file is written, and it left the files so
-abbrev pub StopsAtOutput : Output → FailedCall → Files → Files → Type 0
-StopsAtOutput output failed before now = (failed.name ≡ output.name) × LeavesUnfinished output failed.call before now
-
--- the file of this name is an input of the request; the change file is loaded behind a web that is there
-abbrev pub IsInput : Request → Files → List ℕ → Type 0
-IsInput (tangle web change) files name = (name ≡ web) ⊎ ((change ≡ Some name) × IsSome (files web))
-IsInput usage files name = ⊥
-
--- the failed call was the load of an input, and every file is as it was
-abbrev pub StopsAtInput : Request → FailedCall → Files → Files → Type 0
-StopsAtInput request failed before now =
-    IsInput request before failed.name × (failed.call ≡ Load) × SameFiles before now
-
--- the file of an answer, if there is an answer and it has one
-abbrev pub output_of : Option Answer → Option Output
-output_of answer = option_and_then (λ answer. answer.output) answer
-
--- a failed call of the shelf ended the run: the load of an input, or a call by which the answer's file is written
-abbrev pub StopsAtCall : Request → Option FailedCall → Files → Files → Type 0
-StopsAtCall request last before now = IsSomeAnd last (λ failed.
-    StopsAtInput request failed before now
-    ⊎ IsSomeAnd (output_of (answer_of request before)) (λ output. StopsAtOutput output failed before now))
-
--- a failed call of the console ended the run: there was a text to print, a front of it was printed, and every file is
--- as it was
-abbrev pub StopsPrinting : Request → Option (List ℕ) → Option (List ℕ) → Files → Files → Type 0
-StopsPrinting request held holds before now =
-    IsSomeAnd (answer_of request before) (λ answer. (answer.console ≢ []) × AppendsFront answer.console held holds)
-    × SameFiles before now
+-- the world of a shelf, a console and ports
+abbrev pub world_of : Option Files → Option (List ℕ) → Option (List (List ℕ)) → World
+world_of files console ports = record { files = files; console = console; ports = ports }

@@ -1,91 +1,187 @@
-//! The words of the command line.
-ghost use Rattle.std.specs.Prelude.{◌≡◌, ◌≤◌, ◌&&◌, ℕ, List, Some, IfOk, length, slice_get};
+//! What the words of a command line ask for.
+ghost use Rattle.std.specs.Prelude.{◌≡◌, find, map, drop, nat_le};
 ghost use Rattle.std.specs.List.{list_all};
-ghost use Rattle.web2c_cli.specs.CommandLine.{is_name_byte, is_name, base_of, pascal_name, is_web_name, is_change_name, is_tangle, request_of, request_by};
+ghost use Rattle.std.specs.Option.{option_map};
+ghost use Rattle.std.specs.Str.{bytes_eq};
+ghost use Rattle.web2c_cli.specs.CommandLine.{command_table, times_given, parts_of, names_for, request_by, request_of};
+ghost use Rattle.web2c_cli.specs.inner.Table.{options_by, command_by};
+ghost use Rattle.web2c_cli.specs.inner.Reading.{names_by, request_as, with_name};
 
-use std::alloc::Global;
-use wb_base::{OutOfMemory, Text, Words};
+use crate::command_table::{COMMANDS, Command, CommandRow, OptionRow};
+use crate::file_names::is_name_of;
+use crate::parts::{Cursor, Part, next_part};
+use std::marker::Model;
+use wb_base::Words;
+
+/// The names of a command line.
+#[derive(Clone, Copy)]
+pub struct Names<'w> {
+    /// The first.
+    pub first: &'w [u8],
+    /// The second, if there is one.
+    pub second: Option<&'w [u8]>,
+}
+
+/// The settings that a command line gives, in their order. They are read from its words where they are wanted.
+#[derive(Drop)]
+pub struct Settings<'w> {
+    words: &'w Words,
+    options: &'static [OptionRow],
+}
+
+impl<'w> Model for Settings<'w> {
+    ghost use Rattle.std.specs.Prelude.{List, drop};
+    ghost use Rattle.std.specs.List.{filter_map};
+    ghost use Rattle.web2c_cli.specs.declared.command_table.Setting.{Setting};
+    ghost use Rattle.web2c_cli.specs.CommandLine.{parts_of, setting_in};
+    ghost use Rattle.web2c_cli.specs.inner.Table.{options_by};
+
+    ghost Value = { List Setting };
+
+    ghost view = { λ settings.
+        filter_map setting_in (parts_of (options_by settings.options.now) (drop 1 settings.words.now)) };
+}
+
+/// What a command is asked to do.
+#[derive(Drop)]
+pub struct Order<'w> {
+    /// The command.
+    pub command: Command,
+    /// The names.
+    pub names: Names<'w>,
+    /// The settings.
+    pub settings: Settings<'w>,
+}
 
 /// What the words ask for.
-#[derive(Clone, Copy)]
-pub enum Command<'w> {
-    /// To tangle the web of this name, with the change file of that name if there is one.
-    Tangle(&'w [u8], Option<&'w [u8]>),
+#[derive(Drop)]
+pub enum Request<'w> {
+    /// The work of a command.
+    Ordered(Order<'w>),
     /// Nothing that is known: the command line is faulty.
     Usage,
 }
 
 /// Reads the words, without the program's own name. It takes no memory.
-#[tactic(auto, unfolding(crate::specs::CommandLine::request_of))]
-pub fn read_command(words: &Words) -> Command<'_>
-    ensures { request_by result ≡ request_of words.now }
+pub fn read_request(words: &Words) -> Request<'_>
+    ensures { request_as result ≡ request_of words.now }
 {
-    match words.count() {
-        2 if names_web(words) => Command::Tangle(words.word(1), None),
-        3 if names_web(words) && is_change_name(words.word(2)) => {
-            Command::Tangle(words.word(1), Some(words.word(2)))
-        }
-        _ => Command::Usage,
+    if words.count() == 0 {
+        return Request::Usage;
+    }
+    match command_row(words.word(0)) {
+        Some(row) => read_order(words, &row),
+        None => Request::Usage,
     }
 }
 
-// Whether the words begin with `tangle` and the name of a web.
-fn names_web(words: &Words) -> bool
-    requires { 2 ≤ length words.now }
-    ensures { (verb web : List ℕ) → slice_get words.now 0 ≡ Some verb → slice_get words.now 1 ≡ Some web →
-        result ≡ (is_tangle verb && is_web_name web) }
+// The row of the command of this word.
+fn command_row(word: &[u8]) -> Option<CommandRow>
+    ensures { option_map command_by result ≡ find (λ form. bytes_eq form.word word.now) command_table }
 {
-    words.word(0) == b"tangle".as_slice() && is_web_name(words.word(1))
+    row_of_word(&COMMANDS, word)
 }
 
-// Whether the word can name a change file.
-fn is_change_name(word: &[u8]) -> bool
-    ensures { result ≡ is_change_name word.now }
+// The row of this word.
+fn row_of_word(rows: &[CommandRow], word: &[u8]) -> Option<CommandRow>
+    ensures { option_map command_by result ≡ find (λ form. bytes_eq form.word word.now) (map command_by rows.now) }
 {
-    is_name(word) && word[0] != b'-'
+    for row in rows {
+        if row.word == word {
+            return Some(*row);
+        }
+    }
+    None
 }
 
-// Whether a file's name may have this byte.
-fn is_name_byte(byte: u8) -> bool
-    ensures { result ≡ is_name_byte byte }
+// Reads the words after that of the command.
+fn read_order<'w>(words: &'w Words, row: &CommandRow) -> Request<'w>
+    ensures { request_as result
+        ≡ request_by (command_by row.now) (parts_of (options_by row.now.options.now) (drop 1 words.now)) }
 {
-    (33..=126).contains(&byte) && byte != b'"' && byte != b'\\'
+    let settings = Settings {
+        words,
+        options: row.options,
+    };
+    if !are_given_at_most_once(&settings, row.options) {
+        return Request::Usage;
+    }
+    match read_names(words, row) {
+        Some(names) => Request::Ordered(Order {
+            command: row.command,
+            names,
+            settings,
+        }),
+        None => Request::Usage,
+    }
 }
 
-// Whether the word is a file's name.
-fn is_name(word: &[u8]) -> bool
-    ensures { result ≡ is_name word.now }
+// Whether no setting is given twice.
+fn are_given_at_most_once(settings: &Settings<'_>, options: &[OptionRow]) -> bool
+    ensures { result ≡ list_all (λ row. nat_le (times_given row.which settings.now) 1) options.now }
 {
-    !word.is_empty() && has_name_bytes(word)
+    options
+        .iter()
+        .all(|row| settings.is_given_at_most_once(row.which))
 }
 
-// Whether each byte of the word is one that a file's name may have.
-fn has_name_bytes(word: &[u8]) -> bool
-    ensures { result ≡ list_all is_name_byte word.now }
-{
-    word.iter().all(|byte| is_name_byte(*byte))
+impl Settings<'_> {
+    // Whether this setting is not given twice.
+    fn is_given_at_most_once(&self, which: u8) -> bool
+        ensures { result ≡ nat_le (times_given which self.now) 1 }
+    {
+        let mut is_given = false;
+        let mut cursor = Cursor::FIRST;
+        while let Some(part) = next_part(self.words, self.options, &mut cursor) {
+            if let Part::Given(setting) = part
+                && setting.which == which
+            {
+                if is_given {
+                    return false;
+                }
+                is_given = true;
+            }
+        }
+        true
+    }
 }
 
-// Whether the word can name a web.
-fn is_web_name(word: &[u8]) -> bool
-    ensures { result ≡ is_web_name word.now }
+// The names, where the command knows all that is said, and each is one that it may have, and there are enough.
+fn read_names<'w>(words: &'w Words, row: &CommandRow) -> Option<Names<'w>>
+    ensures { option_map names_by result
+        ≡ names_for (command_by row.now) (parts_of (options_by row.now.options.now) (drop 1 words.now)) }
 {
-    is_name(word) && word[0] != b'-' && !base(word).is_empty()
+    let mut names: Option<Names<'w>> = None;
+    let mut count = 0;
+    let mut cursor = Cursor::FIRST;
+    while let Some(part) = next_part(words, row.options, &mut cursor) {
+        match part {
+            Part::Name(word) => {
+                if count >= row.names.len() || !is_name_of(row.names[count], word) {
+                    return None;
+                }
+                names = Some(with_name(names, word));
+                count += 1;
+            }
+            Part::Given(_) => {}
+            Part::Unknown => return None,
+        }
+    }
+    if count < row.needed { None } else { names }
 }
 
-/// The name of a web without a last `.web`: the files that are made of the web are named by it.
-pub fn base(web: &[u8]) -> &[u8]
-    ensures { result.now ≡ base_of web.now }
+// The names with one more, of which the first two are kept.
+fn with_name<'w>(names: Option<Names<'w>>, word: &'w [u8]) -> Names<'w>
+    ensures { names_by result ≡ with_name (option_map names_by names.entry) word.now }
 {
-    web.strip_suffix(b".web".as_slice()).unwrap_or(web)
-}
-
-/// The name of the Pascal file that is made of a web.
-pub fn pascal_name(alloc: Global, web: &[u8]) -> Result<Text, OutOfMemory>
-    ensures { IfOk result (λ name. name ≡ pascal_name web.now) }
-{
-    let mut name = Text::new(alloc);
-    name.push_all(base(web))?;
-    name.push_all(b".p")?;
-    Ok(name)
+    match names {
+        None => Names {
+            first: word,
+            second: None,
+        },
+        Some(names) => Names {
+            first: names.first,
+            second: names.second.or(Some(word)),
+        },
+    }
 }

@@ -2,12 +2,14 @@
 ghost use Rattle.std.specs.Prelude.{◌≡◌, List, [], ◌∷◌, ◌++◌, IfOk, OnOk, IfErr, None, Ok, Err};
 ghost use Rattle.wb_base.specs.WorkResult.{IfFault};
 ghost use Rattle.web2c_cli.specs.Raw.{PlacedByte, raw_line, raw_text};
-ghost use Rattle.web2c_cli.specs.EarlyForm.{is_blank, begins_section, begins_pascal, not_built_at, bad_byte_at, web_not_built, marked_unless, early_form};
-ghost use Rattle.web2c_cli.specs.EarlyReader.{kind_of, last_behind, stage_behind, added, still, AreAlike};
+ghost use Rattle.web2c_cli.specs.EarlyForm.{is_blank, begins_section, begins_pascal, not_built_at, bad_byte_at};
+ghost use Rattle.web2c_cli.specs.EarlyForm.{web_not_built, marked_unless, early_form};
+ghost use Rattle.web2c_cli.specs.inner.EarlyReader.{kind_of, last_after, stage_after, added, still, AreAlike};
 
 use arrayvec::ArrayVec;
 use change_merge::Lines;
 use std::alloc::Global;
+use wb_base::faults::{BAD_BYTE, NOT_BUILT_YET};
 use wb_base::{Fault, FileTag, Place, Text, WorkErr};
 
 // The most bytes of a word, and of the text that is written.
@@ -41,8 +43,8 @@ enum Last {
     // A word that has this many bytes so far.
     InWord(u8),
     // A word and blanks.
-    BehindWord,
-    BehindDot,
+    AfterWord,
+    AfterDot,
     // Nothing, a sign that is no dot, or a sign and blanks.
     Elsewhere,
 }
@@ -50,7 +52,7 @@ enum Last {
 // How much of what stands before the Pascal text was read.
 #[derive(Clone, Copy)]
 enum Opening {
-    Front,
+    Start,
     // The at sign of the section start, at this place.
     SectionSign(Place),
     // The section start, and blanks.
@@ -74,14 +76,14 @@ struct Reader {
 
 /// The text that is written for a web in the early form.
 ///
-/// The form is one section start at the very front of the web, then blanks (spaces and tabs), `@p` in either case, and
+/// The form is one section start at the very start of the web, then blanks (spaces and tabs), `@p` in either case, and
 /// a Pascal text to the end: blanks, words and the signs `;`, `,` and `.`. A word is a letter and the letters and
-/// digits behind it, at most 32 bytes. The end of a line counts as a space after it. Written is the Pascal text between
+/// digits after it, at most 32 bytes. The end of a line counts as a space after it. Written is the Pascal text between
 /// `{1:}` and `{:1}`, without its blanks and with one space between words that then stand side by side.
 ///
 /// Faults: 8 at the line of a byte of the Pascal text that is no tab and not within 32 to 126; 90 at the line of the
-/// first other byte that does not fit, such as a word's 33rd, a dot directly behind a dot, or any at sign behind the
-/// `@p`, where an at sign is looked at with the byte behind it; the first of these in the order of the text. Else 90 at
+/// first other byte that does not fit, such as a word's 33rd, a dot directly after a dot, or any at sign after the
+/// `@p`, where an at sign is looked at with the byte after it; the first of these in the order of the text. Else 90 at
 /// line 0 of the web, where the web ends before the `@p`, or where more than 72 bytes would be written.
 ///
 /// The section start and `@p` are the WEB profile's; the form and its faults are this project's own.
@@ -99,13 +101,13 @@ pub fn early_text(alloc: Global, lines: &Lines) -> Result<Text, WorkErr>
 }
 
 impl Reader {
-    // A reader at the front of a web.
+    // A reader at the start of a web.
     fn new() -> Reader
-        ensures start { result.stage ≡ Stage.BeforePascal Opening.Front }
+        ensures start { result.stage ≡ Stage.BeforePascal Opening.Start }
         ensures empty { result.kept.items ≡ [] }
     {
         Reader {
-            stage: Stage::BeforePascal(Opening::Front),
+            stage: Stage::BeforePascal(Opening::Start),
             kept: ArrayVec::new(),
         }
     }
@@ -134,11 +136,11 @@ impl Reader {
     {
         match self.stage {
             Stage::BeforePascal(opening) => {
-                self.stage = stage_behind(opening, byte, place)?;
+                self.stage = stage_after(opening, byte, place)?;
             }
             Stage::InPascal(last) => {
                 let kind = kind_of(byte);
-                self.stage = Stage::InPascal(last_behind(last, kind, place)?);
+                self.stage = Stage::InPascal(last_after(last, kind, place)?);
                 keep(&mut self.kept, last, kind, byte);
             }
         }
@@ -172,33 +174,33 @@ fn marked(alloc: Global, text: &[u8]) -> Result<Text, WorkErr>
     Ok(marked)
 }
 
-// What stands behind a byte before the Pascal text.
-fn stage_behind(opening: Opening, byte: u8, place: Place) -> Result<Stage, Fault>
-    ensures { result ≡ stage_behind opening byte place }
+// What stands after a byte before the Pascal text.
+fn stage_after(opening: Opening, byte: u8, place: Place) -> Result<Stage, Fault>
+    ensures { result ≡ stage_after opening byte place }
 {
     match opening {
-        Opening::Front if byte == b'@' => Ok(Stage::BeforePascal(Opening::SectionSign(place))),
+        Opening::Start if byte == b'@' => Ok(Stage::BeforePascal(Opening::SectionSign(place))),
         Opening::SectionSign(_) if begins_section(byte) => Ok(Stage::BeforePascal(Opening::Blanks)),
         Opening::Blanks if is_blank(byte) => Ok(Stage::BeforePascal(Opening::Blanks)),
         Opening::Blanks if byte == b'@' => Ok(Stage::BeforePascal(Opening::PascalSign(place))),
         Opening::PascalSign(_) if begins_pascal(byte) => Ok(Stage::InPascal(Last::Elsewhere)),
         Opening::SectionSign(sign) | Opening::PascalSign(sign) => Err(not_built_at(sign)),
-        Opening::Front | Opening::Blanks => Err(not_built_at(place)),
+        Opening::Start | Opening::Blanks => Err(not_built_at(place)),
     }
 }
 
-// What stands last behind a byte of this kind in a Pascal text.
-fn last_behind(last: Last, kind: Kind, place: Place) -> Result<Last, Fault>
-    ensures { result ≡ last_behind last kind place }
+// What stands last after a byte of this kind in a Pascal text.
+fn last_after(last: Last, kind: Kind, place: Place) -> Result<Last, Fault>
+    ensures { result ≡ last_after last kind place }
 {
     match (last, kind) {
         (Last::InWord(length), Kind::Letter | Kind::Digit) if length < WORD_LIMIT => {
             Ok(Last::InWord(length + 1))
         }
-        (Last::BehindWord | Last::BehindDot | Last::Elsewhere, Kind::Letter) => Ok(Last::InWord(1)),
-        (Last::InWord(_) | Last::BehindWord | Last::Elsewhere, Kind::Dot) => Ok(Last::BehindDot),
-        (Last::InWord(_) | Last::BehindWord, Kind::Blank) => Ok(Last::BehindWord),
-        (Last::BehindDot | Last::Elsewhere, Kind::Blank) | (_, Kind::Sign) => Ok(Last::Elsewhere),
+        (Last::AfterWord | Last::AfterDot | Last::Elsewhere, Kind::Letter) => Ok(Last::InWord(1)),
+        (Last::InWord(_) | Last::AfterWord | Last::Elsewhere, Kind::Dot) => Ok(Last::AfterDot),
+        (Last::InWord(_) | Last::AfterWord, Kind::Blank) => Ok(Last::AfterWord),
+        (Last::AfterDot | Last::Elsewhere, Kind::Blank) | (_, Kind::Sign) => Ok(Last::Elsewhere),
         (_, Kind::Letter | Kind::Digit | Kind::Dot | Kind::Unfit) => Err(not_built_at(place)),
         (_, Kind::Bad) => Err(bad_byte_at(place)),
     }
@@ -210,7 +212,7 @@ fn keep(kept: &mut ArrayVec<u8, TEXT_LIMIT>, last: Last, kind: Kind, byte: u8)
 {
     match (last, kind) {
         (_, Kind::Blank) => {}
-        (Last::BehindWord, Kind::Letter) => {
+        (Last::AfterWord, Kind::Letter) => {
             keep_byte(kept, b' ');
             keep_byte(kept, byte);
         }
@@ -251,14 +253,14 @@ fn is_blank(byte: u8) -> bool
     matches!(byte, b' ' | b'\t')
 }
 
-// Whether this byte behind an at sign begins a section.
+// Whether this byte after an at sign begins a section.
 fn begins_section(code: u8) -> bool
     ensures { result ≡ begins_section code }
 {
     is_blank(code) || code == b'*'
 }
 
-// Whether this byte behind an at sign begins the Pascal text.
+// Whether this byte after an at sign begins the Pascal text.
 fn begins_pascal(code: u8) -> bool
     ensures { result ≡ begins_pascal code }
 {
@@ -269,14 +271,14 @@ fn begins_pascal(code: u8) -> bool
 fn bad_byte_at(place: Place) -> Fault
     ensures { result ≡ bad_byte_at place }
 {
-    Fault::at(8, place)
+    Fault::at(BAD_BYTE, place)
 }
 
 // The fault of what does not fit the early form.
 fn not_built_at(place: Place) -> Fault
     ensures { result ≡ not_built_at place }
 {
-    Fault::at(90, place)
+    Fault::at(NOT_BUILT_YET, place)
 }
 
 // The fault of a web that does not fit the early form as a whole.

@@ -2,20 +2,26 @@
 #![tactic(auto)]
 
 mod arguments;
+mod calls;
 mod command_line;
+mod command_table;
 mod early_form;
+mod file_names;
 mod files;
-mod inputs;
+mod halt;
+mod parts;
+mod pool_listing;
 mod run;
+mod status;
 mod tangled;
-mod work;
+mod tangling;
 
 use arguments::read_words;
 use run::run;
+use status::Status;
 use std::io;
 use std::process::ExitCode;
-use wb_ports::{DirShelf, StdSink};
-use work::{Status, Stop};
+use wb_ports::{DirShelf, PortErr, StdSink};
 
 /// Hands the words of the command line, the files of the folder and the standard output to `run`, and ends with the
 /// status that it answers. Where the runtime refuses the words the status is 3, and where there is no memory for them
@@ -28,8 +34,8 @@ fn main(rt: HostRuntime) -> ExitCode {
             let mut con = StdSink::new(io::writer(&rt));
             run(alloc, &words, &mut shelf, &mut con, &mut Vec::new(alloc))
         }
-        Err(Stop::OutOfMemory) => Status::OutOfMemory as u8,
-        Err(Stop::Failed | Stop::Fault(_)) => Status::Failed as u8,
+        Err(PortErr::Failed) => Status::Failed.number(),
+        Err(PortErr::OutOfMemory) => Status::OutOfMemory.number(),
     };
     ExitCode::from(status)
 }

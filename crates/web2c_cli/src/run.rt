@@ -1,23 +1,26 @@
 //! The top call: what the program does with its words.
-ghost use Rattle.std.specs.Prelude.{◌≡◌, ◌≢◌, ◌++◌, ◌⊎◌, ◌≤◌, [], ◌∷◌, false, OnOk, IsErrOf};
-ghost use Rattle.std.specs.Option.{option_copied};
-ghost use Rattle.wb_base.specs.ConsoleLine.{console_line};
-ghost use Rattle.wb_ports.specs.Counts.{CountsFailure, Rose, is_failed};
-ghost use Rattle.wb_ports.specs.Held.{WhereTold, Appends, AppendsFront};
-ghost use Rattle.wb_ports.specs.Files.{SameFiles};
-ghost use Rattle.web2c_cli.specs.CommandLine.{usage, request_of, usage_line};
-ghost use Rattle.web2c_cli.specs.Program.{name_given, FinishesBy, StopsAtCall, StopsPrinting};
-ghost use Rattle.web2c_cli.specs.Stop.{is_failed_stop};
-ghost use Rattle.web2c_cli.specs.Tangling.{TanglesTo};
+ghost use Rattle.std.specs.Prelude.{◌≡◌, ◌≢◌, ◌⊎◌, ◌≤◌, ℕ, List, Option, false, IfOk, IfErr, IsErrOf};
+ghost use Rattle.wb_ports.specs.Counts.{CountsFailure, Rose};
+ghost use Rattle.web2c_cli.specs.Status.{number_of};
+ghost use Rattle.web2c_cli.specs.CommandLine.{usage, request_of};
+ghost use Rattle.web2c_cli.specs.Work.{Ends, Stops, by_shelf, by_console, by_memory, ends};
+ghost use Rattle.web2c_cli.specs.Program.{work_of, refused, command_work, port_bytes, world_of, fault_line, file_name};
+ghost use Rattle.web2c_cli.specs.declared.halt.Halt.TheVariants.{Stopped};
+ghost use Rattle.web2c_cli.specs.inner.Reading.{names_by, order_by, request_as};
+ghost use Rattle.web2c_cli.specs.inner.Reaching.{Goes, Concludes, Reporting, status_of};
+ghost use Rattle.web2c_cli.specs.inner.Reaching.{is_by_shelf, is_by_console, is_halted_by_shelf, is_halted_by_console};
 
-use crate::command_line::{Command, pascal_name, read_command};
-use crate::files::write_file;
-use crate::inputs::load_inputs;
-use crate::tangled::tangle_text;
-use crate::work::{Status, Stop};
+use crate::calls::print;
+use crate::command_line::{Names, Order, Request, read_request};
+use crate::command_table::Command;
+use crate::file_names::{code_name, output_name};
+use crate::halt::{Halt, Stop};
+use crate::pool_listing::list_pool;
+use crate::status::Status;
+use crate::tangling::tangle;
 use std::alloc::Global;
-use wb_base::{Fault, FileTag, Words};
-use wb_ports::{Failed, Port, PortErr, Shelf, Sink};
+use wb_base::{Fault, FileTag, OutOfMemory, Text, Words};
+use wb_ports::{Port, Shelf, Sink};
 
 // The line that tells how to call the program.
 const USAGE_LINE: &[u8] =
@@ -27,10 +30,10 @@ const USAGE_LINE: &[u8] =
 /// status for the program to end with: 0 where the work was done, 1 where an input has a fault, 2 where the command
 /// line is faulty, 3 where a call on the shelf or the console failed, 4 where no memory was found.
 ///
-/// `tangle WEB [CH]` reads the web and the change file from the shelf and leaves the Pascal text there. A fault is one
-/// line on the console, and leaves every file as it was; a faulty command line is answered by the usage line. Nothing
-/// else is printed. No file is open afterwards, but after status 3 one may be. The ports are left as they were. This
-/// project's own.
+/// `tangle WEB [CH]` reads the web and the change file from the shelf and leaves the Pascal text there. `pooltype POOL`
+/// reads the pool and prints its listing. A fault is one line on the console, and leaves every file as it was; a faulty
+/// command line is answered by the usage line. Nothing else is printed. No file is open afterwards, but after status 3
+/// one may be. The ports are left as they were. This project's own.
 pub fn run<S: Shelf, K: Sink>(
     alloc: Global,
     words: &Words,
@@ -40,108 +43,178 @@ pub fn run<S: Shelf, K: Sink>(
 ) -> u8
     requires { S.is_open shelf.old ≡ false }
 
-    // A run that ends by itself has the status, console text and files of the answer to its words.
-    ensures finished { result ≤ 2 →
-        WhereTold (FinishesBy (request_of words.now) result (K.held con.old) (K.held con.new))
-        (S.files shelf.old) (S.files shelf.new) }
+    // A run that ends by itself has done the work of its words: its status, console text and files are those of it.
+    ensures finished { result ≢ number_of Status.Failed → result ≢ number_of Status.OutOfMemory →
+        Ends (work_of (request_of words.now)) result
+        (world_of (S.files shelf.old) (K.held con.old)
+        (port_bytes (λ port. (Port-box port).told port.value) ports.old.items))
+        (world_of (S.files shelf.new) (K.held con.new)
+        (port_bytes (λ port. (Port-box port).told port.value) ports.new.items)) }
 
-    // On a faulty command line, and on no other, the usage line comes; the shelf is not called, and no memory wanted.
-    ensures usage { request_of words.now ≡ usage →
-        ((result ≡ 2) × Appends usage_line (K.held con.old) (K.held con.new))
-        ⊎ ((result ≡ 3) × AppendsFront usage_line (K.held con.old) (K.held con.new)) }
-    ensures usage_only { result ≡ 2 → request_of words.now ≡ usage }
-    ensures usage_shelf { request_of words.now ≡ usage → shelf.new ≡ shelf.old }
+    // Memory that was not found stopped the work, at a load or before an act.
+    ensures out_of_memory { result ≡ number_of Status.OutOfMemory → Stops (work_of (request_of words.now)) by_memory
+        (world_of (S.files shelf.old) (K.held con.old)
+        (port_bytes (λ port. (Port-box port).told port.value) ports.old.items))
+        (world_of (S.files shelf.new) (K.held con.new)
+        (port_bytes (λ port. (Port-box port).told port.value) ports.new.items)) }
 
-    // Status 3 is a failed call: of the shelf, after which nothing was printed, or of the console.
-    ensures failed { result ≡ 3 →
+    // A failed call stopped the work: one of the shelf, or one of the console.
+    ensures failed { result ≡ number_of Status.Failed →
         (Rose (S.faults shelf.old) (S.faults shelf.new) × (K.faults con.new ≡ K.faults con.old)
-        × WhereTold (StopsAtCall (request_of words.now) (S.last_failure shelf.new))
-        (S.files shelf.old) (S.files shelf.new)
-        × Appends [] (K.held con.old) (K.held con.new))
+        × Stops (work_of (request_of words.now)) (by_shelf (S.last_failure shelf.new))
+        (world_of (S.files shelf.old) (K.held con.old)
+        (port_bytes (λ port. (Port-box port).told port.value) ports.old.items))
+        (world_of (S.files shelf.new) (K.held con.new)
+        (port_bytes (λ port. (Port-box port).told port.value) ports.new.items)))
         ⊎ (Rose (K.faults con.old) (K.faults con.new) × (S.faults shelf.new ≡ S.faults shelf.old)
-        × WhereTold (StopsPrinting (request_of words.now) (K.held con.old) (K.held con.new))
-        (S.files shelf.old) (S.files shelf.new)) }
-    ensures none_failed { result ≢ 3 →
+        × Stops (work_of (request_of words.now)) by_console
+        (world_of (S.files shelf.old) (K.held con.old)
+        (port_bytes (λ port. (Port-box port).told port.value) ports.old.items))
+        (world_of (S.files shelf.new) (K.held con.new)
+        (port_bytes (λ port. (Port-box port).told port.value) ports.new.items))) }
+    ensures none_failed { result ≢ number_of Status.Failed →
         (S.faults shelf.new ≡ S.faults shelf.old) × (K.faults con.new ≡ K.faults con.old) }
 
-    ensures out_of_memory { result ≡ 4 → WhereTold SameFiles (S.files shelf.old) (S.files shelf.new)
-        × Appends [] (K.held con.old) (K.held con.new) }
-
-    // With status 0 nothing is printed.
-    ensures silent { result ≡ 0 → Appends [] (K.held con.old) (K.held con.new) }
-
-    ensures statuses { result ≤ 4 }
-    ensures closed { result ≢ 3 → S.is_open shelf.new ≡ false }
+    ensures statuses { result ≤ number_of Status.OutOfMemory }
+    ensures closed { result ≢ number_of Status.Failed → S.is_open shelf.new ≡ false }
     ensures frame { K.frame con.new ≡ K.frame con.old }
     ensures ports { ports.new.items ≡ ports.old.items }
+
+    // On a faulty command line the shelf is not called, and no memory is wanted; no other answers the usage status.
+    ensures usage { request_of words.now ≡ usage → (result ≢ number_of Status.OutOfMemory) × (shelf.new ≡ shelf.old) }
+    ensures usage_only { result ≡ number_of Status.Usage → request_of words.now ≡ usage }
 {
-    match read_command(words) {
-        Command::Usage => match con.write(USAGE_LINE) {
-            Ok(()) => Status::Usage as u8,
-            Err(Failed) => Status::Failed as u8,
-        },
-        Command::Tangle(web, change) => match tangle_web(alloc, web, change, shelf) {
-            Ok(()) => Status::Done as u8,
-            Err(Stop::Failed) => Status::Failed as u8,
-            Err(Stop::OutOfMemory) => Status::OutOfMemory as u8,
-            Err(Stop::Fault(fault)) => match report(
-                alloc,
-                &fault,
-                name_given(web, change, fault.file),
-                con,
-            ) {
-                Ok(()) => Status::Fault as u8,
-                Err(PortErr::Failed) => Status::Failed as u8,
-                Err(PortErr::OutOfMemory) => Status::OutOfMemory as u8,
-            },
-        },
+    status_of(perform(alloc, &read_request(words), shelf, con)).number()
+}
+
+// The status of a run that ended by itself, or was stopped.
+fn status_of(outcome: Result<Status, Stop>) -> Status
+    ensures { result ≡ status_of outcome }
+{
+    match outcome {
+        Ok(status) => status,
+        Err(Stop::Shelf | Stop::Console) => Status::Failed,
+        Err(Stop::OutOfMemory) => Status::OutOfMemory,
     }
 }
 
-// Loads the web and its change file, tangles them and writes the Pascal file. All memory is taken before the file is
-// made.
-fn tangle_web<S: Shelf>(
+// Does the work of a request.
+fn perform<S: Shelf, K: Sink>(
     alloc: Global,
-    web: &[u8],
-    change: Option<&[u8]>,
+    request: &Request<'_>,
     shelf: &mut S,
-) -> Result<(), Stop>
+    con: &mut K,
+) -> Result<Status, Stop>
     requires { S.is_open shelf.old ≡ false }
 
-    ensures files { WhereTold (TanglesTo web.now (option_copied change.entry) result (S.last_failure shelf.new))
-        (S.files shelf.old) (S.files shelf.new) }
-    ensures closed { IsErrOf result Stop.Failed ⊎ (S.is_open shelf.new ≡ false) }
-    ensures cause { CountsFailure (is_failed_stop result) (S.faults shelf.old) (S.faults shelf.new) }
+    ensures work { (ports : Option (List (List ℕ))) →
+        Concludes (work_of (request_as request.now)) result (S.last_failure shelf.new)
+        (world_of (S.files shelf.old) (K.held con.old) ports) (world_of (S.files shelf.new) (K.held con.new) ports) }
+    ensures statuses { IfOk result (λ status. number_of status ≤ number_of Status.Usage) }
+    ensures closed { IsErrOf result Stop.Shelf ⊎ (S.is_open shelf.new ≡ false) }
+    ensures shelf_cause { CountsFailure (is_by_shelf result) (S.faults shelf.old) (S.faults shelf.new) }
+    ensures con_cause { CountsFailure (is_by_console result) (K.faults con.old) (K.faults con.new) }
+    ensures frame { K.frame con.new ≡ K.frame con.old }
+    ensures usage { request_as request.now ≡ usage →
+        (shelf.new ≡ shelf.old) × IfErr result (λ stop. stop ≡ Stop.Console) }
+    ensures usage_only { IfOk result (λ status. number_of status ≡ number_of Status.Usage →
+        request_as request.now ≡ usage) }
 {
-    let name = pascal_name(alloc, web)?;
-    let inputs = load_inputs(alloc, web, change, shelf)?;
-    let mut text = tangle_text(alloc, inputs.web.bytes(), inputs.change.bytes())?;
-    text.push(b'\n')?;
-    write_file(shelf, name.bytes(), text.bytes())?;
-    Ok(())
-}
-
-// The name that was given for a file of the web's work.
-fn name_given<'w>(web: &'w [u8], change: Option<&'w [u8]>, file: FileTag) -> &'w [u8]
-    ensures { result.now ≡ name_given web.now (option_copied change.entry) file }
-{
-    match (change, file) {
-        (Some(change), FileTag::Change) => change,
-        _ => web,
+    match request {
+        Request::Usage => {
+            print(con, USAGE_LINE)?;
+            Ok(Status::Usage)
+        }
+        Request::Ordered(order) => match work(alloc, order, shelf, con) {
+            Ok(()) => Ok(Status::Done),
+            Err(Halt::Fault(fault)) => report(alloc, order, &fault, con),
+            Err(Halt::Stopped(stop)) => Err(stop),
+        },
     }
 }
 
-// Prints the line of a fault in the file of this name.
-fn report<K: Sink>(alloc: Global, fault: &Fault, name: &[u8], con: &mut K) -> Result<(), PortErr>
-    ensures ok { OnOk result (Appends (console_line fault.now name.now ++ 10 ∷ []) (K.held con.old) (K.held con.new)) }
-    ensures failed { IsErrOf result PortErr.Failed →
-        AppendsFront (console_line fault.now name.now ++ 10 ∷ []) (K.held con.old) (K.held con.new) }
-    ensures out_of_memory { IsErrOf result PortErr.OutOfMemory → Appends [] (K.held con.old) (K.held con.new) }
-    ensures cause { CountsFailure (is_failed result) (K.faults con.old) (K.faults con.new) }
+// Does the work of a command, but for the printing of a fault.
+fn work<S: Shelf, K: Sink>(
+    alloc: Global,
+    order: &Order<'_>,
+    shelf: &mut S,
+    con: &mut K,
+) -> Result<(), Halt>
+    requires { S.is_open shelf.old ≡ false }
+
+    ensures work { (ports : Option (List (List ℕ))) →
+        Goes (refused (order_by order.now)) (command_work order.now.command (order_by order.now))
+        (λ _. ends (number_of Status.Done)) result (S.last_failure shelf.new)
+        (world_of (S.files shelf.old) (K.held con.old) ports) (world_of (S.files shelf.new) (K.held con.new) ports) }
+    ensures closed { IsErrOf result (Stopped Stop.Shelf) ⊎ (S.is_open shelf.new ≡ false) }
+    ensures shelf_cause { CountsFailure (is_halted_by_shelf result) (S.faults shelf.old) (S.faults shelf.new) }
+    ensures con_cause { CountsFailure (is_halted_by_console result) (K.faults con.old) (K.faults con.new) }
     ensures frame { K.frame con.new ≡ K.frame con.old }
 {
-    let mut line = fault.text(alloc, name)?;
+    match order.command {
+        Command::Tangle => {
+            tangle(alloc, order.names.first, order.names.second, shelf)?;
+            Ok(())
+        }
+        Command::Pooltype => list_pool(alloc, order.names.first, shelf, con),
+    }
+}
+
+// Prints the line of a fault.
+fn report<K: Sink>(
+    alloc: Global,
+    order: &Order<'_>,
+    fault: &Fault,
+    con: &mut K,
+) -> Result<Status, Stop>
+    ensures work { Reporting (order_by order.now) fault.now result (K.held con.old) (K.held con.new) }
+    ensures status { IfOk result (λ status. status ≡ Status.Refused) }
+    ensures cause { CountsFailure (is_by_console result) (K.faults con.old) (K.faults con.new) }
+    ensures quiet { is_by_shelf result ≡ false }
+    ensures frame { K.frame con.new ≡ K.frame con.old }
+{
+    let line = fault_line(alloc, order, fault)?;
+    print(con, line.bytes())?;
+    Ok(Status::Refused)
+}
+
+// The line that reports a fault.
+fn fault_line(alloc: Global, order: &Order<'_>, fault: &Fault) -> Result<Text, OutOfMemory>
+    ensures { IfOk result (λ line. line ≡ fault_line (order_by order.now) fault.now) }
+{
+    let name = file_name(alloc, order.command, &order.names, fault.file)?;
+    let mut line = fault.text(alloc, name.bytes())?;
     line.push(b'\n')?;
-    con.write(line.bytes())?;
-    Ok(())
+    Ok(line)
+}
+
+// The name that is printed with a fault in a file.
+fn file_name(
+    alloc: Global,
+    command: Command,
+    names: &Names<'_>,
+    file: FileTag,
+) -> Result<Text, OutOfMemory>
+    ensures { IfOk result (λ name. name ≡ file_name command (names_by names.now) file) }
+{
+    match (command, file) {
+        (Command::Tangle, FileTag::Web) => copy_of(alloc, names.first),
+        (Command::Tangle, FileTag::Change) => {
+            copy_of(alloc, names.second.unwrap_or(names.first))
+        }
+        (Command::Tangle, FileTag::Pool) => output_name(alloc, names.first, b".pool"),
+        (Command::Tangle, FileTag::Pas) => output_name(alloc, names.first, b".p"),
+        (Command::Tangle, FileTag::Header) => output_name(alloc, names.first, b".h"),
+        (Command::Tangle, FileTag::Code(number)) => code_name(alloc, names.first, number),
+        (Command::Pooltype, _) => copy_of(alloc, names.first),
+    }
+}
+
+// A text of these bytes.
+fn copy_of(alloc: Global, bytes: &[u8]) -> Result<Text, OutOfMemory>
+    ensures { IfOk result (λ text. text ≡ bytes.now) }
+{
+    let mut text = Text::new(alloc);
+    text.push_all(bytes)?;
+    Ok(text)
 }

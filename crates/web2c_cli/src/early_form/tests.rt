@@ -17,78 +17,65 @@ const BAD_BYTE_1: &[u8] = b"! t.web:1: bad byte (F8)";
 
 const BAD_BYTE_2: &[u8] = b"! t.web:2: bad byte (F8)";
 
+// A web, and the text that is written for it, or the console line of its fault.
+#[derive(Clone, Copy)]
+struct Row {
+    web: &'static [u8],
+    text: &'static [u8],
+}
+
 #[test]
 fn answers_webs(rt: HostRuntime) -> Result<(), Fail> {
-    let rows: [(&[u8], &[u8]); 42] = [
-        (b"@ @p aa bb", b"{1:}aa bb{:1}"),
-        (b"@\t \t@P\ta\t\tb", b"{1:}a b{:1}"),
-        (b"@*@pa", b"{1:}a{:1}"),
-        (b"@\n\n@p\na\n", b"{1:}a{:1}"),
-        (b"@ @p", b"{1:}{:1}"),
-        (b"", NOT_BUILT),
-        (b"@", NOT_BUILT),
-        (b"@* \n\n", NOT_BUILT),
-        (b"@ text @p cc", NOT_BUILT_1),
-        (b" @ @p a", NOT_BUILT_1),
-        (b"\n@ @p a", NOT_BUILT_1),
-        (b"@@ @p a", NOT_BUILT_1),
-        (b"@ @", NOT_BUILT_1),
-        (b"@ @d a=1", NOT_BUILT_1),
-        (b"@ \xff@p a", NOT_BUILT_1),
-        (b"@*\n* @p a", NOT_BUILT_2),
-        (
-            b"@ @p program t; begin end.",
-            b"{1:}program t;begin end.{:1}",
-        ),
-        (b"@ @p a1b2 ; c , d .", b"{1:}a1b2;c,d.{:1}"),
-        (b"@ @p a\nB\n\nc", b"{1:}a B c{:1}"),
-        (b"@ @p a. .b", b"{1:}a..b{:1}"),
-        (b"@ @p a.\n.b", b"{1:}a..b{:1}"),
-        (b"@ @p a..b", NOT_BUILT_1),
-        (b"@ @p x:=1", NOT_BUILT_1),
-        (b"@ @p\n\n1a", NOT_BUILT_3),
-        (b"@ @p a 1", NOT_BUILT_1),
-        (b"@ @p a\nb\n@p c", NOT_BUILT_3),
-        (b"@ @p @\xff", NOT_BUILT_1),
-        (b"@ @p x\xc8", BAD_BYTE_1),
-        (b"@ @p a\x0bb", BAD_BYTE_1),
-        (b"@ @p \x7f+", BAD_BYTE_1),
-        (b"@ @p +\x7f", NOT_BUILT_1),
-        (b"@ @p a\n\x1f\n+", BAD_BYTE_2),
-        (b"@ @p a\n+\n\x1f", NOT_BUILT_2),
-        (b"@ @p a\n~", NOT_BUILT_2),
-        (
-            b"@ @p a1111111111111111111111111111111",
-            b"{1:}a1111111111111111111111111111111{:1}",
-        ),
-        (b"@ @p a11111111111111111111111111111111", NOT_BUILT_1),
-        (
-            b"@ @p aaaaaaaaaaaaaaaaaaaaaaaaaaaaaaaa;bbbbbbbbbbbbbbbbbbbbbbbbbbbbbbb",
-            b"{1:}aaaaaaaaaaaaaaaaaaaaaaaaaaaaaaaa;bbbbbbbbbbbbbbbbbbbbbbbbbbbbbbb{:1}",
-        ),
-        (
-            b"@ @p aaaaaaaaaaaaaaaaaaaaaaaaaaaaaaaa;bbbbbbbbbbbbbbbbbbbbbbbbbbbbbbbb",
-            NOT_BUILT,
-        ),
-        (
-            b"@ @p aaaaaaaaaaaaaaaaaaaaaaaaaaaaaaaa\nbbbbbbbbbbbbbbbbbbbbbbbbbbbbbbb",
-            b"{1:}aaaaaaaaaaaaaaaaaaaaaaaaaaaaaaaa bbbbbbbbbbbbbbbbbbbbbbbbbbbbbbb{:1}",
-        ),
-        (
-            b"@ @p aaaaaaaaaaaaaaaaaaaaaaaaaaaaaaaa\nbbbbbbbbbbbbbbbbbbbbbbbbbbbbbbbb",
-            NOT_BUILT,
-        ),
-        (
-            b"@ @p aaaaaaaaaaaaaaaaaaaaaaaaaaaaaaaa\nbbbbbbbbbbbbbbbbbbbbbbbbbbbbbbbb\n+",
-            NOT_BUILT_3,
-        ),
-        (
-            b"@ @p aaaaaaaaaaaaaaaaaaaaaaaaaaaaaaaa;bbbbbbbbbbbbbbbbbbbbbbbbbbbbbbbb\n\xff",
-            BAD_BYTE_2,
-        ),
+    #[rattlefmt::skip]
+    let rows = [
+        Row { web: b"@ @p aa bb", text: b"{1:}aa bb{:1}" },
+        Row { web: b"@\t \t@P\ta\t\tb", text: b"{1:}a b{:1}" },
+        Row { web: b"@*@pa", text: b"{1:}a{:1}" },
+        Row { web: b"@\n\n@p\na\n", text: b"{1:}a{:1}" },
+        Row { web: b"@ @p", text: b"{1:}{:1}" },
+        Row { web: b"", text: NOT_BUILT },
+        Row { web: b"@", text: NOT_BUILT },
+        Row { web: b"@* \n\n", text: NOT_BUILT },
+        Row { web: b"@ text @p cc", text: NOT_BUILT_1 },
+        Row { web: b" @ @p a", text: NOT_BUILT_1 },
+        Row { web: b"\n@ @p a", text: NOT_BUILT_1 },
+        Row { web: b"@@ @p a", text: NOT_BUILT_1 },
+        Row { web: b"@ @", text: NOT_BUILT_1 },
+        Row { web: b"@ @d a=1", text: NOT_BUILT_1 },
+        Row { web: b"@ \xff@p a", text: NOT_BUILT_1 },
+        Row { web: b"@*\n* @p a", text: NOT_BUILT_2 },
+        Row { web: b"@ @p program t; begin end.", text: b"{1:}program t;begin end.{:1}" },
+        Row { web: b"@ @p a1b2 ; c , d .", text: b"{1:}a1b2;c,d.{:1}" },
+        Row { web: b"@ @p a\nB\n\nc", text: b"{1:}a B c{:1}" },
+        Row { web: b"@ @p a. .b", text: b"{1:}a..b{:1}" },
+        Row { web: b"@ @p a.\n.b", text: b"{1:}a..b{:1}" },
+        Row { web: b"@ @p a..b", text: NOT_BUILT_1 },
+        Row { web: b"@ @p x:=1", text: NOT_BUILT_1 },
+        Row { web: b"@ @p\n\n1a", text: NOT_BUILT_3 },
+        Row { web: b"@ @p a 1", text: NOT_BUILT_1 },
+        Row { web: b"@ @p a\nb\n@p c", text: NOT_BUILT_3 },
+        Row { web: b"@ @p @\xff", text: NOT_BUILT_1 },
+        Row { web: b"@ @p x\xc8", text: BAD_BYTE_1 },
+        Row { web: b"@ @p a\x0bb", text: BAD_BYTE_1 },
+        Row { web: b"@ @p \x7f+", text: BAD_BYTE_1 },
+        Row { web: b"@ @p +\x7f", text: NOT_BUILT_1 },
+        Row { web: b"@ @p a\n\x1f\n+", text: BAD_BYTE_2 },
+        Row { web: b"@ @p a\n+\n\x1f", text: NOT_BUILT_2 },
+        Row { web: b"@ @p a\n~", text: NOT_BUILT_2 },
+        Row { web: b"@ @p a1111111111111111111111111111111", text: b"{1:}a1111111111111111111111111111111{:1}" },
+        Row { web: b"@ @p a11111111111111111111111111111111", text: NOT_BUILT_1 },
+        Row { web: b"@ @p aaaaaaaaaaaaaaaaaaaaaaaaaaaaaaaa;bbbbbbbbbbbbbbbbbbbbbbbbbbbbbbb",
+            text: b"{1:}aaaaaaaaaaaaaaaaaaaaaaaaaaaaaaaa;bbbbbbbbbbbbbbbbbbbbbbbbbbbbbbb{:1}" },
+        Row { web: b"@ @p aaaaaaaaaaaaaaaaaaaaaaaaaaaaaaaa;bbbbbbbbbbbbbbbbbbbbbbbbbbbbbbbb", text: NOT_BUILT },
+        Row { web: b"@ @p aaaaaaaaaaaaaaaaaaaaaaaaaaaaaaaa\nbbbbbbbbbbbbbbbbbbbbbbbbbbbbbbb",
+            text: b"{1:}aaaaaaaaaaaaaaaaaaaaaaaaaaaaaaaa bbbbbbbbbbbbbbbbbbbbbbbbbbbbbbb{:1}" },
+        Row { web: b"@ @p aaaaaaaaaaaaaaaaaaaaaaaaaaaaaaaa\nbbbbbbbbbbbbbbbbbbbbbbbbbbbbbbbb", text: NOT_BUILT },
+        Row { web: b"@ @p aaaaaaaaaaaaaaaaaaaaaaaaaaaaaaaa\nbbbbbbbbbbbbbbbbbbbbbbbbbbbbbbbb\n+", text: NOT_BUILT_3 },
+        Row { web: b"@ @p aaaaaaaaaaaaaaaaaaaaaaaaaaaaaaaa;bbbbbbbbbbbbbbbbbbbbbbbbbbbbbbbb\n\xff", text: BAD_BYTE_2 },
     ];
-    for (web, want) in rows {
-        assert_eq!(rt; answer_to(rt.alloc(), web)?.bytes(), want);
+    for (index, row) in rows.iter().enumerate() {
+        let answer = answer_to(rt.alloc(), row.web)?;
+        assert_eq!(rt; (index, answer.bytes()), (index, row.text));
     }
     Ok(())
 }

@@ -1,7 +1,7 @@
 use Rattle.std.proofs.Common.{◌≡◌, drop}
 use Rattle.web2c_cli.specs.Raw.{raw_text}
 use Rattle.web2c_cli.specs.EarlyForm.{early_form}
-use Rattle.web2c_cli.specs.EarlyReader.{still}
+use Rattle.web2c_cli.specs.inner.EarlyReader.{still}
 use Rattle.web2c_cli.proofs.early_form.early_text.Given as goal
 
 abbrev pub invariant-loop-index : goal.invariant-loop-index

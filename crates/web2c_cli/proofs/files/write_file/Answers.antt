@@ -1,6 +1,7 @@
+use Rattle.wb_ports.proofs.FilesLemmas.{made_then}
 use Rattle.wb_ports.specs.Files.{AppendsTo}
-use Rattle.web2c_cli.specs.Writing.{FillsUnfinished}
-use Rattle.web2c_cli.proofs.FileSteps.{made_then, made_and_filled, made_and_unfinished}
+use Rattle.web2c_cli.specs.inner.Writing.{FillsUnfinished}
+use Rattle.web2c_cli.proofs.WritingLemmas.{made_and_filled, made_and_unfinished}
 use Rattle.web2c_cli.proofs.files.write_file.Goals as goal
 
 pub returns-in_err-fill-clause-failed : goal.returns-in_err-fill-clause-failed

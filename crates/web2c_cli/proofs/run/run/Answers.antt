@@ -1,29 +1,19 @@
-use Rattle.std.proofs.Common.{None, Err, inl, inr, refl, ap}
-use Rattle.web2c_cli.proofs.Endings.{unprinted, done, rose, console_rose, unmoved, stopped, unfound, stopped_printing}
+use Rattle.std.proofs.Common.{◌∙◌, ap}
+use Rattle.web2c_cli.specs.Status.{number_of}
+use Rattle.web2c_cli.proofs.ConcludingLemmas.{finishes, wants_memory, fails}
 use Rattle.web2c_cli.proofs.run.run.Goals as goal
 
-pub returns-in-Ok-tangle_web-clause-finished : goal.returns-in-Ok-tangle_web-clause-finished
-returns-in-Ok-tangle_web-clause-finished g c _ = done _ _ _ None _ _ _ c.in-Tangle.ensures c.in-Ok-tangle_web.ensures.files
+pub returns-clause-finished : goal.returns-clause-finished
+returns-clause-finished g c =
+    finishes _ _ _ _ _ _ _ c.read_request.ensures (c.number.ensures ∙ ap number_of c.status_of.ensures)
+    (c.perform.ensures.work _)
 
-pub returns-in-Ok-tangle_web-clause-silent : goal.returns-in-Ok-tangle_web-clause-silent
-returns-in-Ok-tangle_web-clause-silent g c _ = unprinted _
+pub returns-clause-out_of_memory : goal.returns-clause-out_of_memory
+returns-clause-out_of_memory g c =
+    wants_memory _ _ _ _ _ _ _ c.read_request.ensures (c.number.ensures ∙ ap number_of c.status_of.ensures)
+    c.perform.ensures.statuses (c.perform.ensures.work _)
 
-pub returns-in-Err-Failed-clause-failed : goal.returns-in-Err-Failed-clause-failed
-returns-in-Err-Failed-clause-failed g c _ = inl (
-  rose _ _ _ c.in-Err-Failed.field-0-is c.in-Err-Failed.ensures.cause,
-  refl,
-  stopped _ _ _ _ _ _ _ c.in-Tangle.ensures c.in-Err-Failed.field-0-is c.in-Err-Failed.ensures.files,
-  unprinted _,
-)
-
-pub returns-in-Err-OutOfMemory-clause-out_of_memory : goal.returns-in-Err-OutOfMemory-clause-out_of_memory
-returns-in-Err-OutOfMemory-clause-out_of_memory g c _ =
-    (unfound _ _ _ _ _ _ c.in-Err-OutOfMemory.field-0-is c.in-Err-OutOfMemory.ensures.files, unprinted _)
-
-pub returns-in-Err-Failed-report-clause-failed : goal.returns-in-Err-Failed-report-clause-failed
-returns-in-Err-Failed-report-clause-failed g c _ = inr (
-  console_rose _ _ _ c.in-Err-Failed-report.field-0-is c.in-Err-Failed-report.ensures.cause,
-  unmoved _ _ _ _ c.in-Err-Fault.field-0-is c.in-Err-Fault.ensures.cause,
-  stopped_printing _ _ _ _ _ _ _ _ _ _ _ c.in-Tangle.ensures c.in-Err-Fault.field-0-is c.in-Err-Fault.ensures.files
-      c.name_given.ensures (c.in-Err-Failed-report.ensures.failed (ap (λ e. Err e) c.in-Err-Failed-report.field-0-is)),
-)
+pub returns-clause-failed : goal.returns-clause-failed
+returns-clause-failed g c =
+    fails _ _ _ _ _ _ _ _ _ _ _ c.read_request.ensures (c.number.ensures ∙ ap number_of c.status_of.ensures)
+    c.perform.ensures.statuses c.perform.ensures.shelf_cause c.perform.ensures.con_cause (c.perform.ensures.work _)
