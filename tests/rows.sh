@@ -8,6 +8,26 @@ trap 'rm -rf "$folder"' EXIT
 "$web2c" >/dev/null # builds the program, if need be
 passed=0 failed=0
 
+# Runs the program on words, and looks at its status, the console and the Pascal file. A failed call has one line of the
+# script's own on standard error, and nothing else has any.
+run() { # STATUS CONSOLE PASCAL WORD...
+    local wanted=$1 console=$2 pascal=$3 lines=0
+    shift 3
+    [ "$wanted" != 3 ] || lines=1
+    "$web2c" "$@" >console 2>errors
+    local status=$?
+    if [ $status = "$wanted" ] && cmp -s console <(printf "$console") && cmp -s t.p <(printf "$pascal") &&
+        [ "$(wc -l <errors)" = $lines ]; then
+        passed=$((passed + 1))
+    else
+        failed=$((failed + 1))
+        printf 'failed: '
+        printf '%q ' "$@"
+        printf ': status %s, ' $status
+        cat console errors t.p
+    fi
+}
+
 # row WORDS WEB CHANGE STATUS CONSOLE PASCAL, each text as printf writes it; an empty web or change file is not there
 row() {
     rm -f t.web t.ch
@@ -15,15 +35,39 @@ row() {
     [ -z "$3" ] || printf "$3" >t.ch
     printf old >t.p
     # shellcheck disable=SC2086 # the words are split here
-    "$web2c" $1 >console 2>errors
-    local status=$?
-    if [ $status = "$4" ] && cmp -s console <(printf "$5") && cmp -s t.p <(printf "$6") && [ ! -s errors ]; then
+    run "$4" "$5" "$6" $1
+}
+
+# pool POOL STATUS LINES LAST...: the listing of a.pool ends so, has that many lines, and the lines of the first strings
+pool() {
+    local status lines=$3 wanted=$2
+    printf "$1" >a.pool
+    shift 3
+    "$web2c" pooltype a.pool >console 2>errors
+    status=$?
+    if [ $status = "$wanted" ] && [ "$(wc -l <console)" = "$lines" ] && [ ! -s errors ] &&
+        cmp -s <(tail -n $# console) <(printf '%s\n' "$@") &&
+        [ "$(sed -n '1p;35p;128p;256p' console)" = "$first_strings" ]; then
         passed=$((passed + 1))
     else
         failed=$((failed + 1))
-        printf 'failed: %s | %s | %s: status %s, ' "$1" "$2" "$3" $status
-        cat console errors t.p
+        printf 'failed: pooltype of %q: status %s, ' "$*" $status
+        tail -n 3 console
+        cat errors
     fi
+}
+first_strings='  0: "^^@"
+ 34: """"
+127: "^^?"
+255: "^^ff"'
+
+# words STATUS CONSOLE WORD...: the web is of the early form, and the Pascal file stays as it is
+words() {
+    local status=$1 console=$2
+    shift 2
+    printf '@ @p aa' >t.web
+    printf old >t.p
+    run "$status" "$console" old "$@"
 }
 
 usage='usage: web2c tangle|pooltype|convert|chain|prun|crun|gen [options] names\n'
@@ -41,6 +85,21 @@ row '' '@ @p aa' '' 2 "$usage" old
 row 'tangle -t.web' '@ @p aa' '' 2 "$usage" old
 row 'tangle .web' '@ @p aa' '' 2 "$usage" old
 row 'tangle t.web t.ch u.ch' '@ @p aa' '' 2 "$usage" old
+row 'tangle -- t.web' '@ @p aa' '' 0 '' '{1:}aa{:1}\n'
+row 'tangle t.web --' '@ @p aa' '' 0 '' '{1:}aa{:1}\n'
+
+words 2 "$usage" tangle -x t.web
+words 2 "$usage" tangle --
+words 3 '' tangle -- -t.web
+words 3 '' tangle -
+words 2 "$usage" tangle ''
+words 2 "$usage" tangle 'a b.web'
+words 2 "$usage" tangle 'a"b.web'
+words 2 "$usage" tangle 'a\b.web'
+words 2 "$usage" tangle $'a\x7fb.web'
+words 2 "$usage" tangle $'a\xc8b.web'
+words 2 "$usage" Tangle t.web
+words 2 "$usage" ''
 
 web='@ @p program t;\nbegin\nend.'
 row 'tangle t.web t.ch' "$web" '@x\n\nbegin\nend;\n@y\nbegin end.\n@z' 1 '! t.ch:4: change lines differ (F7)\n' old
@@ -51,12 +110,37 @@ row 'tangle t.web t.ch' '@ @p aa' '@x\n@ @p aa\n@y\n@ @p\na+b\n@z' 1 '! t.ch:5: 
 row 'tangle t.web t.ch' "$web" '@X text\nbegin \t\n@Y more\n@Z' 0 '' '{1:}program t;end.{:1}\n'
 row 'tangle t.web t.ch' "$web" '@y' 1 '! t.ch:1: stray change mark (F2)\n' old
 row 'tangle t.web t.ch' "$web" '@x\nend.\nmore\n@y\n@z' 1 '! t.ch:3: change lines differ (F7)\n' old
-row 'tangle t.web t.ch' "$web" '@x\nend.\n@y\nend.\n@z\n@x\nbegin\n@y\n@z' 1 '! t.ch:6: change block not found (F6)\n' old
+row 'tangle t.web t.ch' "$web" '@x\nend.\n@y\nend.\n@z\n@x\nbegin\n@y\n@z' 1 \
+    '! t.ch:6: change block not found (F6)\n' old
 row 'tangle t.web t.ch' "$web" '@x\n\n\n@y\n@z' 1 '! t.ch:1: empty change (F5)\n' old
 row 'tangle t.web t.ch' "$web" 'no blocks here' 0 '' '{1:}program t;begin end.{:1}\n'
 row 'tangle t.web t.ch' '@ text' '@x\na\n@y' 1 '! t.ch:1: no @z (F4)\n' old
 row 'tangle t.web t.ch' "$web" '@x\nbegin\n@y\nx\n\310\n@z' 1 '! t.ch:5: bad byte (F8)\n' old
 row 'tangle t.web t.ch' '@ @p aa' '' 3 '' old
+
+pool '02ab\n*000000000\n' 0 258 '256: "ab"' '(708 characters in all.)'
+pool '02ab\n*123456789\n' 0 258 '256: "ab"' '(708 characters in all.)'
+pool '02ab\n*000000000' 0 258 '256: "ab"' '(708 characters in all.)'
+pool '02ab\n*12345678\n' 1 258 '256: "ab"' '! a.pool:2: bad last line (F42)'
+pool '' 1 257 '255: "^^ff"' '! a.pool:1: bad last line (F42)'
+pool '0' 1 257 '255: "^^ff"' '! a.pool:1: pool length bad (F40)'
+pool '02' 1 257 '255: "^^ff"' '! a.pool:1: pool line too short (F41)'
+pool '02a' 1 257 '255: "^^ff"' '! a.pool:1: pool line too short (F41)'
+pool '02ab' 1 258 '256: "ab"' '! a.pool:2: bad last line (F42)'
+pool '02ab\n' 1 258 '256: "ab"' '! a.pool:2: bad last line (F42)'
+pool '02ab\n*0000000' 1 258 '256: "ab"' '! a.pool:2: bad last line (F42)'
+
+words 2 "$usage" pooltype
+words 2 "$usage" pooltype a.pool b.pool
+words 2 "$usage" pooltype -x a.pool
+words 2 "$usage" pooltype --
+words 2 "$usage" pooltype ''
+words 2 "$usage" pooltype 'a b'
+words 2 "$usage" pooltype 'a"b'
+words 2 "$usage" pooltype $'a\x7fb'
+words 3 '' pooltype b.pool
+head -c 16777217 /dev/zero >a.pool
+words 1 '! a.pool:0: limit passed: file bytes (F28)\n' pooltype -- a.pool
 
 echo "$passed passed, $failed failed"
 [ $failed = 0 ]
