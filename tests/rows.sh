@@ -118,17 +118,19 @@ row 'tangle t.web t.ch' '@ text' '@x\na\n@y' 1 '! t.ch:1: no @z (F4)\n' old
 row 'tangle t.web t.ch' "$web" '@x\nbegin\n@y\nx\n\310\n@z' 1 '! t.ch:5: bad byte (F8)\n' old
 row 'tangle t.web t.ch' '@ @p aa' '' 3 '' old
 
-pool '02ab\n*000000000\n' 0 258 '256: "ab"' '(708 characters in all.)'
 pool '02ab\n*123456789\n' 0 258 '256: "ab"' '(708 characters in all.)'
-pool '02ab\n*000000000' 0 258 '256: "ab"' '(708 characters in all.)'
 pool '02ab\n*12345678\n' 1 258 '256: "ab"' '! a.pool:2: bad last line (F42)'
-pool '' 1 257 '255: "^^ff"' '! a.pool:1: bad last line (F42)'
-pool '0' 1 257 '255: "^^ff"' '! a.pool:1: pool length bad (F40)'
-pool '02' 1 257 '255: "^^ff"' '! a.pool:1: pool line too short (F41)'
-pool '02a' 1 257 '255: "^^ff"' '! a.pool:1: pool line too short (F41)'
-pool '02ab' 1 258 '256: "ab"' '! a.pool:2: bad last line (F42)'
-pool '02ab\n' 1 258 '256: "ab"' '! a.pool:2: bad last line (F42)'
-pool '02ab\n*0000000' 1 258 '256: "ab"' '! a.pool:2: bad last line (F42)'
+# the pool of one string, cut to each length
+for length in {0..16}; do
+    cut=$(printf '02ab\n*000000000\n' | head -c "$length"; printf x)
+    case $length in
+    0) pool '' 1 257 '255: "^^ff"' '! a.pool:1: bad last line (F42)' ;;
+    1) pool "${cut%x}" 1 257 '255: "^^ff"' '! a.pool:1: pool length bad (F40)' ;;
+    2 | 3) pool "${cut%x}" 1 257 '255: "^^ff"' '! a.pool:1: pool line too short (F41)' ;;
+    15 | 16) pool "${cut%x}" 0 258 '256: "ab"' '(708 characters in all.)' ;;
+    *) pool "${cut%x}" 1 258 '256: "ab"' '! a.pool:2: bad last line (F42)' ;;
+    esac
+done
 
 words 2 "$usage" pooltype
 words 2 "$usage" pooltype a.pool b.pool
