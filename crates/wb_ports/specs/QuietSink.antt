@@ -1,4 +1,4 @@
--- A sink that is never refused, as its clauses see it. This project's own.
+-- A sink that never fails, as its clauses see it. This project's own.
 use Rattle.std.specs.Prelude.{ℕ, ◌+◌, ◌++◌, List, length, nat_lt, if◌then◌else◌, Option, Some, None}
 
 -- the bytes that it has got, where it tells them, and how many it has room for

@@ -10,43 +10,47 @@ use crate::counting::raise;
 use crate::writing::{flush, write_whole};
 use crate::{Failed, LOAD_LIMIT, PortErr, Shelf};
 use std::alloc::Global;
-use std::io::{ErrorKind, Read};
+use std::io::{BufWriter, ErrorKind, Read};
 use std::marker::Model;
 use std::rt::Files;
 use std::{fs, io};
 use wb_base::Text;
 
-// How many bytes are read at once.
-const CHUNK: usize = 8192;
+// How many bytes are read at once, and gathered before they are written.
+const CHUNK: usize = 65_536;
 
-/// The files of the current folder, by names that are paths. It tells no content, since no contract knows what a real
-/// file holds. To contracts it is a `DirState`. This project's own.
+/// The files of the current folder, by names that are paths. What is written is gathered, and handed on when it is
+/// much and when the file is closed, so a failure may show late. It tells no content, since no contract knows what a
+/// real file holds. To contracts it is a `DirState`. This project's own.
 #[derive(Drop)]
 pub struct DirShelf<R: Files> {
+    alloc: Global,
     files: R,
-    open_file: Option<R::File>,
+    open_file: Option<BufWriter<R::File>>,
     faults: u64,
 }
 
 impl<R: Files> Model for DirShelf<R> {
     ghost use Rattle.std.specs.Prelude.{is_some, option_and_then};
+    ghost use Rattle.std.specs.Io.Buffered.{writer_contents};
     ghost use Rattle.wb_ports.specs.DirShelf.{DirState};
 
     ghost Value = { DirState };
 
     ghost view = { λ shelf. record {
       is_open = is_some shelf.open_file;
-      written = option_and_then (λ file. R.File.contents file) shelf.open_file;
+      written = option_and_then (writer_contents R.File.contents) shelf.open_file;
       faults = shelf.faults;
     } };
 }
 
 impl<R: Files> DirShelf<R> {
     /// The shelf over these files, which std's runtime gives. It opens none and is never refused.
-    pub fn new(files: R) -> DirShelf<R>
+    pub fn new(alloc: Global, files: R) -> DirShelf<R>
         ensures { result ≡ record { is_open = false; written = None; faults = 0 } }
     {
         DirShelf {
+            alloc,
             files,
             open_file: None,
             faults: 0,
@@ -75,10 +79,10 @@ impl<R: Files> Shelf for DirShelf<R> {
         loaded
     }
 
-    /// Makes the file empty and opens it. It fails where the name is no path in UTF-8, and where the file cannot be
-    /// made; then no file is open.
+    /// Makes the file empty and opens it. It fails where the name is no path in UTF-8, where the file cannot be made,
+    /// and where there is no memory to gather what is written; then no file is open.
     fn create(&mut self, name: &[u8]) -> Result<(), PortErr> {
-        match create_file(&self.files, name) {
+        match create_file(self.alloc, &self.files, name) {
             Ok(file) => {
                 self.open_file = Some(file);
                 Ok(())
@@ -90,7 +94,7 @@ impl<R: Files> Shelf for DirShelf<R> {
         }
     }
 
-    /// Appends the piece to the open file. It fails where the file does, or takes nothing of what is left.
+    /// Appends the piece to the open file. It fails where the file does, or takes nothing of what is handed on.
     fn write(&mut self, piece: &[u8]) -> Result<(), Failed>
         requires { self.old.is_open ≡ true }
 
@@ -190,11 +194,18 @@ fn refusal(error: &io::Error) -> PortErr {
 }
 
 // Makes the file of this name empty and opens it.
-fn create_file<R: Files>(files: &R, name: &[u8]) -> Result<R::File, Failed> {
+fn create_file<R: Files>(
+    alloc: Global,
+    files: &R,
+    name: &[u8],
+) -> Result<BufWriter<R::File>, Failed> {
     let Ok(path) = str::from_utf8(name) else {
         return Err(Failed);
     };
-    match fs::create(files, path) {
+    let Ok(file) = fs::create(files, path) else {
+        return Err(Failed);
+    };
+    match BufWriter::with_capacity(alloc, CHUNK, file) {
         Ok(file) => Ok(file),
         Err(_) => Err(Failed),
     }

@@ -1,4 +1,4 @@
-//! A sink that is never refused, and tells only what it could keep.
+//! A sink that never fails, and tells only what it could keep.
 ghost use Rattle.std.specs.Prelude.{◌≡◌, [], Some, IsOk, IfOk, option_copied};
 ghost use Rattle.wb_ports.specs.Held.{Gains};
 ghost use Rattle.wb_ports.specs.QuietSink.{QuietState, told_after};

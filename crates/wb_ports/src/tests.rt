@@ -67,7 +67,7 @@ fn written_back<S: Shelf>(shelf: &mut S, alloc: std::alloc::Global) -> Result<bo
 #[test]
 fn a_shelf_over_files_loads_what_it_wrote(rt: HostRuntime) -> Result<(), Fail> {
     let alloc = rt.alloc();
-    let mut shelf = DirShelf::new(&rt);
+    let mut shelf = DirShelf::new(rt.alloc(), &rt);
     assert_eq!(rt; written_back(&mut shelf, alloc), Ok(true));
     fs::remove_file(&rt, "t.p")?;
     assert!(rt; matches!(shelf.load(alloc, b"t.p"), Err(PortErr::Failed)));
@@ -80,9 +80,9 @@ fn a_shelf_over_files_loads_what_it_wrote(rt: HostRuntime) -> Result<(), Fail> {
 
 #[test]
 fn a_file_that_cannot_be_made_fails(rt: HostRuntime) -> Result<(), Fail> {
-    let mut shelf = DirShelf::new(&rt);
+    let mut shelf = DirShelf::new(rt.alloc(), &rt);
     assert_eq!(rt; shelf.create(b"none/t.p"), Err(PortErr::Failed));
-    let mut other = DirShelf::new(&rt);
+    let mut other = DirShelf::new(rt.alloc(), &rt);
     assert_eq!(rt; other.create(b"\xff"), Err(PortErr::Failed));
     Ok(())
 }
@@ -95,7 +95,7 @@ fn a_file_in_a_locked_folder_fails(rt: HostRuntime) -> Result<(), Fail> {
     fs::set_permissions(&rt, "locked", permissions)?;
     // Where the test may write there all the same, as an administrator may, so may the shelf.
     let refused = fs::create(&rt, "locked/t.p").is_err();
-    let created = DirShelf::new(&rt).create(b"locked/t.p");
+    let created = DirShelf::new(rt.alloc(), &rt).create(b"locked/t.p");
     assert_eq!(rt;
         created,
         if refused {

@@ -30,7 +30,7 @@ fn main(rt: HostRuntime) -> ExitCode {
     let alloc = rt.alloc();
     let status = match read_words(&rt, alloc) {
         Ok(words) => {
-            let mut shelf = DirShelf::new(&rt);
+            let mut shelf = DirShelf::new(alloc, &rt);
             let mut con = StdSink::new(io::writer(&rt));
             run(alloc, &words, &mut shelf, &mut con, &mut Vec::new(alloc))
         }
