@@ -1,0 +1,10 @@
+//! The tokens of a Pascal text.
+#![tactic(auto)]
+
+mod kinds;
+mod limits;
+mod tokens;
+
+pub use kinds::Kind;
+pub use limits::{GREATEST_NUMBER, NAME_LIMIT};
+pub use tokens::{Payload, Token};
