@@ -3,3 +3,4 @@ pub mod Spellings
 pub mod Cutting
 pub mod Tokens
 pub mod TokenRows
+pub mod inner

@@ -1,8 +1,10 @@
 //! The tokens of a Pascal text.
 #![tactic(auto)]
 
+mod cutting;
 mod kinds;
 mod limits;
+mod spellings;
 mod tokens;
 
 pub use kinds::Kind;

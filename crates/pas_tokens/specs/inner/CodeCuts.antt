@@ -1,0 +1,36 @@
+-- How the code holds spellings, and tokens at the front of a text.
+use Rattle.std.specs.Prelude.{◌≡◌, ℕ, List, map, drop, Result, Ok, Err}
+use Rattle.std.specs.Char.{to_ascii_lowercase}
+use Rattle.pas_tokens.specs.declared.kinds.Kind.{Kind}
+use Rattle.pas_tokens.specs.declared.kinds.Kind.TheVariants as k
+use Rattle.pas_tokens.specs.declared.tokens.Payload.{Payload as PayloadRead}
+use Rattle.pas_tokens.specs.declared.tokens.Payload.TheVariants as read
+use Rattle.pas_tokens.specs.declared.spellings.Spelling.{Spelling as SpellingRead}
+use Rattle.pas_tokens.specs.declared.cutting.Cut.{Cut as CutRead}
+use Rattle.pas_tokens.specs.declared.cutting.Wrong.{Wrong as WrongRead}
+use Rattle.pas_tokens.specs.Spellings.{Spelling}
+use Rattle.pas_tokens.specs.Cutting.{Payload, nothing, value, spelling, Cut, Wrong}
+
+-- a spelling, as the definition has it, and the same in small letters
+abbrev pub spelling_by : SpellingRead → Spelling
+spelling_by row = record { spelled = row.spelled.now; kind = row.kind }
+
+abbrev pub folded_by : SpellingRead → Spelling
+folded_by row = record { spelled = map to_ascii_lowercase row.spelled.now; kind = row.kind }
+
+-- the spelling of a token of this kind: that of a name is in small letters
+abbrev pub spelled_by : Kind → List ℕ → List ℕ
+spelled_by k.Name bytes = map to_ascii_lowercase bytes
+spelled_by other bytes = bytes
+
+-- what a token of this kind says
+abbrev pub payload_by : Kind → PayloadRead → Payload
+payload_by kind read.Nothing = nothing
+payload_by kind (read.Value number) = value number
+payload_by kind (read.Spelling bytes) = spelling (spelled_by kind bytes.now)
+
+-- a token or a fault at the front of this text, as the definition has it
+abbrev pub cut_by : List ℕ → Result CutRead WrongRead → Result Cut Wrong
+cut_by text (Ok cut) =
+    Ok (record { kind = cut.kind; payload = payload_by cut.kind cut.payload; rest = drop cut.size text })
+cut_by text (Err refusal) = Err (record { code = refusal.code; which = refusal.which })
