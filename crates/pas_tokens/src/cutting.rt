@@ -5,7 +5,7 @@ ghost use Rattle.std.specs.List.{prefix_len};
 ghost use Rattle.std.specs.Char.{is_ascii_digit};
 ghost use Rattle.pas_tokens.specs.Cutting.{is_name_byte, is_sign, is_string_byte, is_real_behind, value_of, string_size};
 ghost use Rattle.pas_tokens.specs.Cutting.{name_cut, number_cut, string_by, sign_cut, token_cut};
-ghost use Rattle.pas_tokens.specs.inner.CodeCuts.{cut_by};
+ghost use Rattle.pas_tokens.specs.inner.CodeCuts.{cut_by, size_by};
 
 use crate::spellings::{reserved_word, sign_of_one, sign_of_two};
 use crate::{GREATEST_NUMBER, Kind, NAME_LIMIT, Payload};
@@ -133,7 +133,7 @@ fn value_of(digits: &[u8]) -> Option<u32>
 {
     let mut value = 0;
     for digit in digits {
-        value = value * 10 + u64::from(*digit - b'0');
+        value = value * 10 + u64::from(digit.saturating_sub(b'0'));
         if value > u64::from(GREATEST_NUMBER) {
             return None;
         }
@@ -182,19 +182,36 @@ fn string_size(inside: &[u8]) -> Option<usize>
 {
     let mut size = 0;
     while size < inside.len() {
-        match inside[size] {
-            b'\'' if is_quote_at(inside, size + 1) => size += 2,
-            b'\'' => return Some(size),
-            b' '..=b'~' => size += 1,
-            _ => return None,
+        match part_at(&inside[size..]) {
+            Part::Single => size += 1,
+            Part::Doubled => size += 2,
+            Part::End => return Some(size),
+            Part::Wrong => return None,
         }
     }
     None
 }
 
-// Whether a quote stands there.
-fn is_quote_at(bytes: &[u8], at: usize) -> bool {
-    at < bytes.len() && bytes[at] == b'\''
+// What a byte is in a string: one byte of it, the first of a doubled quote, its end, or none that may stand there.
+#[derive(Clone, Copy)]
+pub(crate) enum Part {
+    Single,
+    Doubled,
+    End,
+    Wrong,
+}
+
+// What the first of these bytes is in a string.
+fn part_at(bytes: &[u8]) -> Part
+    requires { 0 < length bytes.now }
+    ensures { string_size bytes.now ≡ size_by result (string_size (drop 1 bytes.now)) (string_size (drop 2 bytes.now)) }
+{
+    match bytes {
+        [b'\'', b'\'', ..] => Part::Doubled,
+        [b'\'', ..] => Part::End,
+        [b' '..=b'~', ..] => Part::Single,
+        _ => Part::Wrong,
+    }
 }
 
 // The sign at the front of a text.

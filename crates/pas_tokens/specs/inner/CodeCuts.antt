@@ -1,5 +1,5 @@
 -- How the code holds spellings, and tokens at the front of a text.
-use Rattle.std.specs.Prelude.{◌≡◌, ℕ, List, map, drop, Result, Ok, Err}
+use Rattle.std.specs.Prelude.{ℕ, List, map, drop, Option, Some, None, Result, Ok, Err}
 use Rattle.std.specs.Char.{to_ascii_lowercase}
 use Rattle.pas_tokens.specs.declared.kinds.Kind.{Kind}
 use Rattle.pas_tokens.specs.declared.kinds.Kind.TheVariants as k
@@ -8,8 +8,10 @@ use Rattle.pas_tokens.specs.declared.tokens.Payload.TheVariants as read
 use Rattle.pas_tokens.specs.declared.spellings.Spelling.{Spelling as SpellingRead}
 use Rattle.pas_tokens.specs.declared.cutting.Cut.{Cut as CutRead}
 use Rattle.pas_tokens.specs.declared.cutting.Wrong.{Wrong as WrongRead}
+use Rattle.pas_tokens.specs.declared.cutting.Part.{Part}
+use Rattle.pas_tokens.specs.declared.cutting.Part.TheVariants as part
 use Rattle.pas_tokens.specs.Spellings.{Spelling}
-use Rattle.pas_tokens.specs.Cutting.{Payload, nothing, value, spelling, Cut, Wrong}
+use Rattle.pas_tokens.specs.Cutting.{Payload, nothing, value, spelling, Cut, Wrong, longer}
 
 -- a spelling, as the definition has it, and the same in small letters
 abbrev pub spelling_by : SpellingRead → Spelling
@@ -34,3 +36,10 @@ abbrev pub cut_by : List ℕ → Result CutRead WrongRead → Result Cut Wrong
 cut_by text (Ok cut) =
     Ok (record { kind = cut.kind; payload = payload_by cut.kind cut.payload; rest = drop cut.size text })
 cut_by text (Err refusal) = Err (record { code = refusal.code; which = refusal.which })
+
+-- the size of a string from a byte on, where these are those from one and from two bytes after it
+abbrev pub size_by : Part → Option ℕ → Option ℕ → Option ℕ
+size_by part.Single after_one after_two = longer 1 after_one
+size_by part.Doubled after_one after_two = longer 2 after_two
+size_by part.End after_one after_two = Some 0
+size_by part.Wrong after_one after_two = None
