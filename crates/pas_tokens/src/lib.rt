@@ -2,6 +2,7 @@
 #![tactic(auto)]
 
 mod cutting;
+mod fronts;
 mod kinds;
 mod limits;
 mod spellings;
