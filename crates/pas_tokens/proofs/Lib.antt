@@ -1,2 +1,5 @@
 mod CuttingLemmas
+mod FrontLemmas
+mod LineLemmas
 mod NumberLemmas
+mod WalkLemmas

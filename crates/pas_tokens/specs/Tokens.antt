@@ -85,3 +85,9 @@ unfoldable pub tokens_of : List ℕ → Result (List Token) Fault
 tokens_of text =
     if nat_lt FILE_LIMIT (length text) then Err (limit_passed LIMIT_FILE_BYTES (record { file = Pas; line = 0 }))
     else tokens_from (length text) text text
+
+-- the tokens behind the first; the end of the text stays
+abbrev pub after_first : List Token → List Token
+after_first [] = []
+after_first (token ∷ []) = token ∷ []
+after_first (token ∷ (next ∷ tokens)) = next ∷ tokens

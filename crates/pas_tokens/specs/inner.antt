@@ -1,2 +1,3 @@
 -- What private contracts say. No contract of a public call cites this.
 pub mod CodeCuts
+pub mod Places

@@ -13,7 +13,8 @@ use Rattle.pas_tokens.specs.declared.fronts.Front.TheVariants as front
 use Rattle.pas_tokens.specs.declared.cutting.Part.{Part}
 use Rattle.pas_tokens.specs.declared.cutting.Part.TheVariants as part
 use Rattle.pas_tokens.specs.Spellings.{Spelling}
-use Rattle.pas_tokens.specs.Tokens.{Front, passes, holds, shows}
+use Rattle.pas_tokens.specs.declared.tokens.Token.{Token as TokenRead}
+use Rattle.pas_tokens.specs.Tokens.{Token, Front, passes, holds, shows}
 use Rattle.pas_tokens.specs.Cutting.{Payload, nothing, value, spelling, Cut, Wrong, longer}
 
 -- a spelling, as the definition has it, and the same in small letters
@@ -33,6 +34,11 @@ abbrev pub payload_by : Kind → PayloadRead → Payload
 payload_by kind read.Nothing = nothing
 payload_by kind (read.Value number) = value number
 payload_by kind (read.Spelling bytes) = spelling (spelled_by kind bytes.now)
+
+-- a token
+abbrev pub token_by : TokenRead → Token
+token_by token =
+    record { kind = token.kind; payload = payload_by token.kind token.payload; line = token.line }
 
 -- a token and a fault at the front of this text, as the definition has them
 abbrev pub cut_in : List ℕ → CutRead → Cut
