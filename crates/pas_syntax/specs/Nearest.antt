@@ -1,5 +1,5 @@
--- Which trees a text may mean where its tokens allow several: an `else` belongs to the nearest `if` (ISO 7185, 6.8.3.4), and
--- the name `others` before the colon of an element is no constant (this project's own).
+-- Which trees a text may mean where its tokens allow several: an `else` belongs to the nearest `if` (ISO 7185,
+-- 6.8.3.4), and the name `others` before the colon of an element is no constant (this project's own).
 use Rattle.std.specs.Prelude.{◌≡◌, ◌≢◌, Bool, true, false, List, [], ◌∷◌, ⊤, All}
 use Rattle.pas_syntax.specs.Tree as tree
 use Rattle.pas_syntax.specs.Tree.{Behind, Separated, Constant, Plain, Statement, Statements, Elements, Others, Body}

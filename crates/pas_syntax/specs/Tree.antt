@@ -1,6 +1,6 @@
--- Trees of Pascal: a constructor for each choice of the grammar (ISO 7185, 6, in this project's profile). Each token of a
--- production is there by its line, or with what it says. A form that the profile leaves out is a constructor too, of the
--- one token that shows it; no tree that is read has it.
+-- Trees of Pascal: a constructor for each choice of the grammar (ISO 7185, 6, in this project's profile). Each token of
+-- a production is there by its line, or with what it says. A form that the profile leaves out is a constructor too, of
+-- the one token that shows it; no tree that is read has it.
 use Rattle.std.specs.Prelude.{ℕ, List, codes, Option}
 use Rattle.pas_syntax.specs.declared.operators.Sign.{Sign}
 use Rattle.pas_syntax.specs.declared.operators.Multiplying.{Multiplying}

@@ -1,5 +1,5 @@
 -- What stands at the front of a text takes a byte or more of it.
-use Rattle.std.proofs.Common.{◌≡◌, ◌∙◌, ℕ, suc, ◌+◌, ◌-◌, ◌≤◌, ◌&&◌, ◌==◌, Bool, true, false, cond, List, [], ◌∷◌, length}
+use Rattle.std.proofs.Common.{◌≡◌, ◌∙◌, ℕ, suc, ◌+◌, ◌≤◌, ◌&&◌, ◌==◌, Bool, true, false, cond, List, [], ◌∷◌, length}
 use Rattle.std.proofs.Common.{take, drop, map, Option, Some, None, Result, Ok, Err, refl, sym, ap, subst, arith}
 use Rattle.std.specs.List.{take_while}
 use Rattle.std.specs.Option.{option_map_or}
@@ -13,7 +13,8 @@ use Rattle.pas_tokens.specs.declared.kinds.Kind.TheVariants.{Name, Number}
 use Rattle.pas_tokens.specs.declared.limits.TheConstants.{GREATEST_NUMBER}
 use Rattle.wb_base.specs.declared.faults.TheConstants.{BAD_PASCAL_TOKEN, PASCAL_LEFT_OUT, REAL_NUMBERS}
 use Rattle.pas_tokens.specs.Spellings.{kind_in, signs_of_one, signs_of_two, reserved_words}
-use Rattle.pas_tokens.specs.Cutting.{Cut, Wrong, wrong, nothing, value, spelling, value_of, is_real_behind, named, name_cut, number_cut, is_name_byte, string_by, string_size}
+use Rattle.pas_tokens.specs.Cutting.{Cut, Wrong, wrong, nothing, value, spelling, value_of, is_real_behind, named}
+use Rattle.pas_tokens.specs.Cutting.{name_cut, number_cut, is_name_byte, string_by, string_size}
 use Rattle.pas_tokens.specs.Cutting.{sign_cut, token_cut, is_pascal_blank, behind_comment}
 use Rattle.pas_tokens.specs.Tokens.{Front, passes, holds, shows, comment_front, token_front, front_of, begins_comment}
 use Rattle.pas_tokens.specs.Tokens.{within_comment}
@@ -123,7 +124,8 @@ behind_shorter (byte ∷ []) = by_cond (IsRestShorter 1) _ _ _ (λ _. some_rest 
 behind_shorter (byte ∷ (next ∷ rest)) =
     let whole = length (byte ∷ (next ∷ rest)) in
     let further = behind_comment (next ∷ rest) in
-    by_cond (IsRestShorter whole) (byte == 125) (Some (next ∷ rest)) (cond (byte == 42 && next == 41) (Some rest) further)
+    by_cond (IsRestShorter whole) (byte == 125) (Some (next ∷ rest))
+    (cond (byte == 42 && next == 41) (Some rest) further)
     (λ _. some_rest (next ∷ rest) (omega arith))
     (λ _. by_cond (IsRestShorter whole) (byte == 42 && next == 41) (Some rest) further
     (λ _. some_rest rest (omega arith)) (λ _. grown _ _ (behind_shorter (next ∷ rest))))

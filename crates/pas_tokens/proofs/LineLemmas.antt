@@ -1,6 +1,7 @@
 -- Lines of a text, by how many of them end before a place.
-use Rattle.std.proofs.Common.{◌≡◌, ◌∙◌, ◌≢◌, ℕ, zero, suc, ◌+◌, ◌-◌, ◌≤◌, ◌<◌, ◌==◌, Bool, true, false, cond, List, [], ◌∷◌}
-use Rattle.std.proofs.Common.{length, take, drop, count_by, max, slice_get, get_or, Option, Some, None, refl, sym, ap, subst, arith}
+use Rattle.std.proofs.Common.{◌≡◌, ◌∙◌, ℕ, suc, ◌+◌, ◌-◌, ◌≤◌, Bool, true, false, cond, List, [], ◌∷◌}
+use Rattle.std.proofs.Common.{length, take, drop, count_by, max, slice_get, get_or, Option, Some, None, refl, sym, ap}
+use Rattle.std.proofs.Common.{subst, arith}
 use Rattle.std.specs.List.{onto_first}
 use Rattle.std.proofs.lemmas.Option.{slice_get-get_or}
 use Rattle.std.proofs.Math.ListN.{drop_of_length-le}
@@ -49,7 +50,8 @@ onto-length byte [] = refl
 onto-length byte (piece ∷ pieces) = omega arith
 
 pieces-cons : (byte : ℕ) (bytes : List ℕ)
-    → length (pieces_of (byte ∷ bytes)) ≡ cond (ends_line byte) (1 + length (pieces_of bytes)) (max 1 (length (pieces_of bytes)))
+    → length (pieces_of (byte ∷ bytes))
+    ≡ cond (ends_line byte) (1 + length (pieces_of bytes)) (max 1 (length (pieces_of bytes)))
 pieces-cons byte bytes =
     elim (ends_line byte) as (λ b. length (cond b ([] ∷ pieces_of bytes) (onto_first byte (pieces_of bytes)))
     ≡ cond b (1 + length (pieces_of bytes)) (max 1 (length (pieces_of bytes))))

@@ -23,7 +23,8 @@ use Rattle.pas_tokens.proofs.FrontLemmas.{IsShorter, passed, held, front_shorter
 
 -- two ways to go on that are the same for short rests
 same_by : (line n : ℕ) (front : Front) (one other : List ℕ → Result (List Token) Fault) → IsShorter n front
-    → ((rest : List ℕ) → length rest ≤ n → one rest ≡ other rest) → tokens_by line front one ≡ tokens_by line front other
+    → ((rest : List ℕ) → length rest ≤ n → one rest ≡ other rest)
+    → tokens_by line front one ≡ tokens_by line front other
 same_by line n (passes rest) one other (passed _ shorter) same = same rest shorter
 same_by line n (holds cut) one other (held _ shorter) same =
     ap (followed_by (record { kind = cut.kind; payload = cut.payload; line = line } ∷ [])) (same cut.rest shorter)
@@ -114,7 +115,8 @@ step_end text before past = ap (tokens_on text) (drop_of_length-le text past)
 pub tokens_of-short : (text : List ℕ) → length text ≤ FILE_LIMIT → tokens_of text ≡ tokens_on text (drop 0 text)
 unfolding tokens_of tokens_on
 tokens_of-short text short =
-    ap (λ b. cond b (Err (limit_passed LIMIT_FILE_BYTES (record { file = Pas; line = 0 }))) (tokens_from (length text) text text))
+    ap (λ b. cond b (Err (limit_passed LIMIT_FILE_BYTES (record { file = Pas; line = 0 })))
+    (tokens_from (length text) text text))
     (le-ltb FILE_LIMIT (length text) short)
 
 -- and else there is a fault
@@ -122,7 +124,8 @@ pub tokens_of-long : (text : List ℕ) → FILE_LIMIT < length text
     → tokens_of text ≡ Err (limit_passed LIMIT_FILE_BYTES (record { file = Pas; line = 0 }))
 unfolding tokens_of
 tokens_of-long text long =
-    ap (λ b. cond b (Err (limit_passed LIMIT_FILE_BYTES (record { file = Pas; line = 0 }))) (tokens_from (length text) text text))
+    ap (λ b. cond b (Err (limit_passed LIMIT_FILE_BYTES (record { file = Pas; line = 0 })))
+    (tokens_from (length text) text text))
     (lt-ltb FILE_LIMIT (length text) long)
 
 -- where all tokens are read, they are the first and those behind it
@@ -139,6 +142,7 @@ tokens_read text point token (Some behind) read follows =
     by_rest (Err fault) whole is = cc
 
 -- what holds of an answer, from what else does
-pub if_ok : {A E : Type 0} (P Q : A → Type 0) (answer : Result A E) → ((a : A) → P a → Q a) → IfOk answer P → IfOk answer Q
+pub if_ok : {A E : Type 0} (P Q : A → Type 0) (answer : Result A E) → ((a : A) → P a → Q a) → IfOk answer P
+    → IfOk answer Q
 if_ok P Q (Ok a) from fact = from a fact
 if_ok P Q (Err e) from fact = fact

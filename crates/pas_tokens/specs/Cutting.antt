@@ -1,10 +1,11 @@
 -- How the front of a Pascal text is cut off: what stands before a token, and one token (ISO 7185, 6.1). The faults are
 -- this project's own.
-use Rattle.std.specs.Prelude.{ℕ, ◌+◌, ◌-◌, ◌*◌, ◌==◌, ◌&&◌, ◌||◌, nat_lt, nat_le, Bool, false, if◌then◌else◌}
-use Rattle.std.specs.Prelude.{List, [], ◌∷◌, ◌++◌, length, take, drop, fold, map, Option, Some, None, Result, Ok, Err}
+use Rattle.std.specs.Prelude.{ℕ, ◌+◌, ◌-◌, ◌*◌, ◌==◌, ◌&&◌, ◌||◌, nat_lt, Bool, false, if◌then◌else◌}
+use Rattle.std.specs.Prelude.{List, [], ◌∷◌, length, take, drop, fold, map, Option, Some, None, Result, Ok, Err}
 use Rattle.std.specs.List.{take_while}
-use Rattle.std.specs.Option.{option_map_or, option_or}
-use Rattle.std.specs.Char.{is_ascii_alphabetic, is_ascii_alphanumeric, is_ascii_digit, is_ascii_graphic, to_ascii_lowercase}
+use Rattle.std.specs.Option.{option_map_or}
+use Rattle.std.specs.Char.{is_ascii_alphabetic, is_ascii_alphanumeric, is_ascii_digit, is_ascii_graphic}
+use Rattle.std.specs.Char.{to_ascii_lowercase}
 use Rattle.wb_base.specs.declared.faults.TheConstants.{BAD_PASCAL_BYTE, BAD_PASCAL_TOKEN, PASCAL_LEFT_OUT, REAL_NUMBERS}
 use Rattle.wb_base.specs.Bytes.{is_white}
 use Rattle.pas_tokens.specs.declared.kinds.Kind.{Kind}
@@ -12,8 +13,8 @@ use Rattle.pas_tokens.specs.declared.kinds.Kind.TheVariants.{Name, Number, Text}
 use Rattle.pas_tokens.specs.declared.limits.TheConstants.{NAME_LIMIT, GREATEST_NUMBER}
 use Rattle.pas_tokens.specs.Spellings.{reserved_words, signs_of_two, signs_of_one, kind_in}
 
--- what a token says beside its kind: nothing, the value of a number, a name in small letters, or what stands between the
--- quotes of a string, with quotes in it doubled
+-- what a token says beside its kind: nothing, the value of a number, a name in small letters, or what stands between
+-- the quotes of a string, with quotes in it doubled
 pub data Payload : Type 0 where
   nothing : Payload
   value : ℕ → Payload
@@ -87,8 +88,8 @@ abbrev pub longer : ℕ → Option ℕ → Option ℕ
 longer more None = None
 longer more (Some size) = Some (more + size)
 
--- the size of what stands in a string, which the text begins within, up to the quote that ends it; none where the string
--- does not end so. A doubled quote is one in the string
+-- the size of what stands in a string, which the text begins within, up to the quote that ends it; none where the
+-- string does not end so. A doubled quote is one in the string
 abbrev pub string_size : List ℕ → Option ℕ
 string_size [] = None
 string_size (byte ∷ []) = if byte == 39 then Some 0 else None

@@ -1,5 +1,5 @@
 -- How reserved words and signs are spelled (ISO 7185, 6.1.2).
-use Rattle.std.specs.Prelude.{ℕ, List, [], ◌∷◌, codes, map, find, Option, option_map}
+use Rattle.std.specs.Prelude.{ℕ, List, [], ◌∷◌, codes, find, Option, option_map}
 use Rattle.std.specs.Str.{bytes_eq}
 use Rattle.pas_tokens.specs.declared.kinds.Kind.{Kind}
 use Rattle.pas_tokens.specs.declared.kinds.Kind.TheVariants as k

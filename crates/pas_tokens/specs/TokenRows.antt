@@ -1,6 +1,5 @@
 -- The cutting of Pascal texts at work.
-use Rattle.std.specs.Prelude.{◌≡◌, ℕ, List, [], ◌∷◌, ◌++◌, codes, map, replicate, Result, Ok, Err, refl}
-use Rattle.wb_base.specs.declared.faults.Fault.{Fault}
+use Rattle.std.specs.Prelude.{◌≡◌, ℕ, List, [], ◌∷◌, ◌++◌, codes, replicate, Ok, Err, refl}
 use Rattle.wb_base.specs.declared.faults.TheConstants.{BAD_PASCAL_BYTE, BAD_PASCAL_TOKEN, PASCAL_LEFT_OUT, REAL_NUMBERS}
 use Rattle.pas_tokens.specs.declared.kinds.Kind.{Kind}
 use Rattle.pas_tokens.specs.declared.kinds.Kind.TheVariants as k
@@ -92,6 +91,7 @@ pub real_number : tokens_of (codes "1.5") ≡ Err (fault_in 1 (record { code = P
 unfolding tokens_of tokens_from
 real_number = refl
 
-pub real_number_with_exponent : tokens_of (codes "1E-") ≡ Err (fault_in 1 (record { code = PASCAL_LEFT_OUT; which = REAL_NUMBERS }))
+pub real_number_with_exponent : tokens_of (codes "1E-")
+    ≡ Err (fault_in 1 (record { code = PASCAL_LEFT_OUT; which = REAL_NUMBERS }))
 unfolding tokens_of tokens_from
 real_number_with_exponent = refl

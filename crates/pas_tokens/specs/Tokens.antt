@@ -1,7 +1,7 @@
--- The tokens of a Pascal text, each with its line (ISO 7185, 6.1). The whole text is cut into tokens. Which fault is told
--- is this project's own.
-use Rattle.std.specs.Prelude.{ℕ, zero, suc, ◌+◌, ◌-◌, ◌==◌, ◌||◌, ◌&&◌, nat_lt, max, Bool, false, if◌then◌else◌}
-use Rattle.std.specs.Prelude.{List, [], ◌∷◌, ◌++◌, length, count_by, drop, take, codes, Option, Some, None, Result, Ok, Err}
+-- The tokens of a Pascal text, each with its line (ISO 7185, 6.1). The whole text is cut into tokens. Which fault is
+-- told is this project's own.
+use Rattle.std.specs.Prelude.{ℕ, zero, suc, ◌+◌, ◌-◌, ◌||◌, nat_lt, max, Bool, if◌then◌else◌}
+use Rattle.std.specs.Prelude.{List, [], ◌∷◌, length, count_by, drop, take, codes, Option, Some, None, Result, Ok, Err}
 use Rattle.std.specs.Str.{bytes_eq}
 use Rattle.wb_base.specs.declared.faults.Fault.{Fault}
 use Rattle.wb_base.specs.declared.faults.TheConstants.{BAD_PASCAL_TOKEN, LIMIT_FILE_BYTES, FILE_LIMIT}

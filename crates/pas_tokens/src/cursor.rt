@@ -4,7 +4,8 @@ ghost use Rattle.std.specs.Prelude.{OnOk, slice_get};
 ghost use Rattle.wb_base.specs.Pieces.{ends_line};
 ghost use Rattle.pas_tokens.specs.Tokens.{fault_in, tokens_of, end_token, after_first};
 ghost use Rattle.pas_tokens.specs.inner.CodeCuts.{wrong_by, token_by};
-ghost use Rattle.pas_tokens.specs.inner.Places.{IsPlaceIn, IsRead, IsBehind, Follows, tokens_at, tokens_behind, is_ended};
+ghost use Rattle.pas_tokens.specs.inner.Places.{IsPlaceIn, IsRead, IsBehind, Follows, tokens_at, tokens_behind};
+ghost use Rattle.pas_tokens.specs.inner.Places.{is_ended};
 
 use crate::cutting::Wrong;
 use crate::fronts::{Front, front_of};

@@ -3,7 +3,7 @@ ghost use Rattle.std.specs.Prelude.{◌≡◌, ◌+◌, ◌<◌, ◌≤◌, ◌�
 ghost use Rattle.std.specs.Prelude.{nat_lt, if◌then◌else◌};
 ghost use Rattle.std.specs.List.{prefix_len};
 ghost use Rattle.std.specs.Char.{is_ascii_digit};
-ghost use Rattle.pas_tokens.specs.Cutting.{is_name_byte, is_sign, is_string_byte, is_real_behind, value_of, string_size};
+ghost use Rattle.pas_tokens.specs.Cutting.{is_name_byte, is_sign, is_real_behind, value_of, string_size};
 ghost use Rattle.pas_tokens.specs.Cutting.{name_cut, number_cut, string_by, sign_cut, token_cut};
 ghost use Rattle.pas_tokens.specs.inner.CodeCuts.{cut_by, size_by};
 

@@ -17,9 +17,11 @@ fn cuts_texts(rt: HostRuntime) -> Result<(), Fail> {
         Cut { text: b"", kinds: &[] },
         Cut { text: b"begin END. ", kinds: &[Kind::Begin, Kind::End, Kind::Dot] },
         Cut { text: b"2..5", kinds: &[Kind::Number, Kind::Dots, Kind::Number] },
-        Cut { text: b"a(.1.):='x'", kinds: &[Kind::Name, Kind::LeftBracket, Kind::Number, Kind::RightBracket, Kind::Becomes, Kind::Text] },
+        Cut { text: b"a(.1.)", kinds: &[Kind::Name, Kind::LeftBracket, Kind::Number, Kind::RightBracket] },
+        Cut { text: b"a:='x'", kinds: &[Kind::Name, Kind::Becomes, Kind::Text] },
         Cut { text: b"x{ (* }y(* { *)z", kinds: &[Kind::Name, Kind::Name, Kind::Name] },
-        Cut { text: b"<=<>>=<>=^", kinds: &[Kind::LessOrEqual, Kind::NotEqual, Kind::GreaterOrEqual, Kind::NotEqual, Kind::Equal, Kind::Caret] },
+        Cut { text: b"<=<>>=", kinds: &[Kind::LessOrEqual, Kind::NotEqual, Kind::GreaterOrEqual] },
+        Cut { text: b"<>=^", kinds: &[Kind::NotEqual, Kind::Equal, Kind::Caret] },
         Cut { text: b"1e;", kinds: &[Kind::Number, Kind::Name, Kind::Semicolon] },
         Cut { text: b"downto to_ forward", kinds: &[Kind::Downto, Kind::Name, Kind::Name] },
     ];

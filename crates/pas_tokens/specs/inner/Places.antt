@@ -1,5 +1,6 @@
 -- Places within a text, and what its tokens are from there on.
-use Rattle.std.specs.Prelude.{◌≡◌, ℕ, ◌-◌, ◌<◌, ◌≤◌, Bool, false, List, [], ◌∷◌, length, drop, slice_get, Option, Some, None, IfSome, Result, Ok, Err}
+use Rattle.std.specs.Prelude.{◌≡◌, ℕ, ◌-◌, ◌<◌, ◌≤◌, Bool, false, List, [], ◌∷◌, length, drop, slice_get, Option, Some}
+use Rattle.std.specs.Prelude.{None, IfSome, Result, Ok, Err}
 use Rattle.wb_base.specs.declared.faults.Fault.{Fault}
 use Rattle.wb_base.specs.declared.faults.TheConstants.{FILE_LIMIT}
 use Rattle.wb_base.specs.Pieces.{ends_line}

@@ -1,6 +1,5 @@
-use Rattle.std.proofs.Common.{◌≡◌, ◌∙◌, ◌∷◌, Option, Ok}
+use Rattle.std.proofs.Common.{◌≡◌, ◌∙◌, ◌∷◌, Ok}
 use Rattle.pas_tokens.specs.declared.cursor.Point.{Point}
-use Rattle.pas_tokens.specs.declared.tokens.Token.{Token}
 use Rattle.pas_tokens.specs.Tokens.{tokens_of}
 use Rattle.pas_tokens.specs.inner.CodeCuts.{token_by}
 use Rattle.pas_tokens.specs.inner.Places.{Follows, tokens_behind}

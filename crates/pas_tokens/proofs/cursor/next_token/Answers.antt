@@ -1,4 +1,4 @@
-use Rattle.std.proofs.Common.{◌∙◌, ap, sym, drop, take, length, ◌-◌, arith, Err, Ok, [], ◌∷◌}
+use Rattle.std.proofs.Common.{◌∙◌, ap, sym, drop, arith, Err, Ok, [], ◌∷◌}
 use Rattle.std.proofs.lemmas.List.{take_rest}
 use Rattle.wb_base.specs.Steps.{followed_by}
 use Rattle.pas_tokens.specs.inner.CodeCuts.{payload_by}
@@ -24,7 +24,12 @@ returns-in-Holds-clause-token c =
     let text = c.args.text.now in
     let point = c.loop-point.point in record {
       place = c.point_behind.ensures.place;
-      further = omega (arith, c.point_behind.ensures.before, c.loop-point.invariant.further, c.in-Holds.ensures.fits.some);
+      further = omega (
+        arith,
+        c.point_behind.ensures.before,
+        c.loop-point.invariant.further,
+        c.in-Holds.ensures.fits.some,
+      );
       tokens =
           sym c.loop-point.invariant.same
           ∙ step_holds text _ point.before point.line c.in-Holds.cut (omega arith) (take_rest text point.before)

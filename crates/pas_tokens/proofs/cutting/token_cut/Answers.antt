@@ -1,4 +1,4 @@
-use Rattle.std.proofs.Common.{◌≡◌, ◌∙◌, ap, drop, ◌∷◌, sym}
+use Rattle.std.proofs.Common.{◌∙◌, ap, drop, ◌∷◌, sym}
 use Rattle.std.proofs.lemmas.List.{take_rest}
 use Rattle.pas_tokens.specs.Cutting.{string_by, string_size}
 use Rattle.pas_tokens.specs.inner.CodeCuts.{cut_by}
