@@ -3,4 +3,5 @@ pub mod Doubled
 pub mod Open
 pub mod PartsView
 pub mod Refused
+pub mod StandsFor
 pub mod Under

@@ -1,5 +1,5 @@
 //! The definitions of macros.
-ghost use Rattle.std.specs.Prelude.{◌≡◌, ◌≢◌, ◌<◌, length, Ok, Err, IfOk, OnOk};
+ghost use Rattle.std.specs.Prelude.{◌≡◌, ◌≢◌, ◌<◌, ◌≤◌, length, Ok, Err, IfOk, OnOk};
 ghost use Rattle.wb_base.specs.WorkResult.{IfFault};
 ghost use Rattle.wb_base.specs.FaultAt.{fault_at};
 ghost use Rattle.wb_base.specs.declared.faults.WorkErr.TheVariants.{Fault as of_input};
@@ -17,6 +17,7 @@ impl<'l> Scanner<'l> {
     pub(crate) fn definition(&mut self) -> Result<Code, WorkErr>
         ensures ok { IfOk result (λ code. definition self.old ≡ Ok (code, self.new)) }
         ensures fault { IfFault result (λ fault. definition self.old ≡ Err fault) }
+        ensures shorter { OnOk result (length self.new.reading.rest < length self.old.reading.rest) }
     {
         let Lexed::Word(word) = self.token()? else {
             return Err(self.bad_definition());
@@ -40,6 +41,7 @@ impl<'l> Scanner<'l> {
         ensures ok { IfOk result (λ class. class_read self.old ≡ Ok (class, self.new)) }
         ensures fault { IfFault result (λ fault. class_read self.old ≡ Err fault) }
         ensures class { IfOk result (λ class. class ≢ Class.Ordinary) }
+        ensures not_longer { OnOk result (length self.new.reading.rest ≤ length self.old.reading.rest) }
     {
         match self.token()? {
             Lexed::Sign(b'=') => Ok(Class::Numeric),
@@ -56,6 +58,7 @@ impl<'l> Scanner<'l> {
     fn parameter(&mut self) -> Result<(), WorkErr>
         ensures ok { OnOk result (parameter_read self.old ≡ Ok (Class.Parametric, self.new)) }
         ensures fault { IfFault result (λ fault. parameter_read self.old ≡ Err fault) }
+        ensures not_longer { OnOk result (length self.new.reading.rest ≤ length self.old.reading.rest) }
     {
         self.expect_sign(b'#')?;
         self.expect_sign(b')')?;
@@ -69,6 +72,7 @@ impl<'l> Scanner<'l> {
     fn expect_sign(&mut self, wanted: u8) -> Result<(), WorkErr>
         ensures ok { OnOk result (expected BAD_DEFINITION (is_sign wanted) self.old ≡ Ok self.new) }
         ensures fault { IfFault result (λ fault. expected BAD_DEFINITION (is_sign wanted) self.old ≡ Err fault) }
+        ensures not_longer { OnOk result (length self.new.reading.rest ≤ length self.old.reading.rest) }
     {
         match self.token()? {
             Lexed::Sign(byte) if byte == wanted => Ok(()),
@@ -83,6 +87,7 @@ impl<'l> Scanner<'l> {
         requires class { class ≢ Class.Ordinary }
         ensures ok { IfOk result (λ code. right_side_read at_name id class self.old ≡ Ok (code, self.new)) }
         ensures fault { IfFault result (λ fault. right_side_read at_name id class self.old ≡ Err fault) }
+        ensures not_longer { OnOk result (length self.new.reading.rest ≤ length self.old.reading.rest) }
     {
         if class == Class::Numeric {
             return self.numeric_side(at_name, id);

@@ -1,7 +1,7 @@
 //! The sections of a web.
-ghost use Rattle.std.specs.Prelude.{◌≡◌, ◌<◌, ◌≤◌, ℕ, length, Ok, Err, IfOk, OnOk};
+ghost use Rattle.std.specs.Prelude.{◌≡◌, ◌≢◌, ◌<◌, ◌≤◌, ℕ, length, Ok, Err, IfOk, OnOk};
 ghost use Rattle.wb_base.specs.WorkResult.{IfFault};
-ghost use Rattle.web_scan.specs.Texts.{stored_since};
+ghost use Rattle.web_scan.specs.Texts.{still_open, stored_since};
 ghost use Rattle.web_scan.specs.Sections.{sections, section, section_parts, named_text, head_read, pascal_text, section_text, section_used};
 ghost use Rattle.web_scan.specs.inner.Open.{IsOpen};
 
@@ -34,6 +34,8 @@ impl<'l> Scanner<'l> {
     fn section(&mut self) -> Result<Code, WorkErr>
         ensures ok { IfOk result (λ code. section self.old ≡ Ok (code, self.new)) }
         ensures fault { IfFault result (λ fault. section self.old ≡ Err fault) }
+        ensures shorter { IfOk result (λ code. code ≢ Code.End
+            → length self.new.reading.rest < length self.old.reading.rest) }
     {
         let place = self.place();
         self.parts.begin_section(place)?;
@@ -48,6 +50,7 @@ impl<'l> Scanner<'l> {
             ≡ Ok (code, self.new)) }
         ensures fault { IfFault result (λ fault. (most : ℕ) → length self.old.reading.rest < most
             → section_parts most first self.old ≡ Err fault) }
+        ensures not_longer { OnOk result (length self.new.reading.rest ≤ length self.old.reading.rest) }
     {
         let mut code = first;
         loop {
@@ -65,6 +68,7 @@ impl<'l> Scanner<'l> {
     fn named_text(&mut self) -> Result<Code, WorkErr>
         ensures ok { IfOk result (λ code. named_text self.old ≡ Ok (code, self.new)) }
         ensures fault { IfFault result (λ fault. named_text self.old ≡ Err fault) }
+        ensures not_longer { OnOk result (length self.new.reading.rest ≤ length self.old.reading.rest) }
     {
         let name = self.section_name()?;
         self.head_signs()?;
@@ -77,6 +81,7 @@ impl<'l> Scanner<'l> {
             → head_read most self.old ≡ Ok self.new) }
         ensures fault { IfFault result (λ fault. (most : ℕ) → length self.old.reading.rest < most
             → head_read most self.old ≡ Err fault) }
+        ensures not_longer { OnOk result (length self.new.reading.rest ≤ length self.old.reading.rest) }
     {
         loop {
             match self.token()? {
@@ -91,6 +96,7 @@ impl<'l> Scanner<'l> {
     fn pascal_text(&mut self, name: Option<u32>) -> Result<Code, WorkErr>
         ensures ok { IfOk result (λ code. pascal_text name self.old ≡ Ok (code, self.new)) }
         ensures fault { IfFault result (λ fault. pascal_text name self.old ≡ Err fault) }
+        ensures not_longer { OnOk result (length self.new.reading.rest ≤ length self.old.reading.rest) }
     {
         let mut text = self.begin_text(Class::Ordinary);
         let code = self.section_text(&mut text)?;
@@ -107,7 +113,8 @@ impl<'l> Scanner<'l> {
         ensures fault { IfFault result (λ fault. (most : ℕ) → length self.old.reading.rest < most
             → section_text most text.old.first self.old ≡ Err fault) }
         ensures first { text.new.first ≡ text.old.first }
-        ensures within { text.new.first ≤ length self.new.web.tokens }
+        ensures within { OnOk result (text.new.first ≤ length self.new.web.tokens) }
+        ensures not_longer { OnOk result (length self.new.reading.rest ≤ length self.old.reading.rest) }
     {
         loop {
             let token = self.token()?;
@@ -133,6 +140,10 @@ impl<'l> Scanner<'l> {
     fn section_used(&mut self) -> Result<(), WorkErr>
         ensures ok { OnOk result (section_used self.old ≡ Ok self.new) }
         ensures fault { IfFault result (λ fault. section_used self.old ≡ Err fault) }
+        ensures not_longer { OnOk result (length self.new.reading.rest ≤ length self.old.reading.rest) }
+        ensures grows { OnOk result (length self.old.web.tokens ≤ length self.new.web.tokens) }
+        ensures open { OnOk result ((first : ℕ) → first ≤ length self.old.web.tokens
+            → still_open (stored_since first self.new.web) ≡ still_open (stored_since first self.old.web)) }
     {
         let name = self.section_name()?;
         let place = self.place();

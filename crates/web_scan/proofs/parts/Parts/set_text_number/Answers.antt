@@ -8,10 +8,10 @@ invariant_of-self c =
     let kept = c.self.invariant in
     let names = c.self.inside.names in
     let long : length c.set.new.self.names ≡ length names.names =
-    ap (λ (after : Identifiers). length after.names) c.set.ensures
+    ap (λ (after : Identifiers). length after.names) c.set.ensures.value
     ∙ length-with_value c.args.id _ names.names in
     record {
-      same_options = ap (λ (after : Identifiers). after.options) c.set.ensures ∙ kept.same_options;
+      same_options = ap (λ (after : Identifiers). after.options) c.set.ensures.value ∙ kept.same_options;
       few_names = omega arith;
       few_tokens = kept.few_tokens;
       few_quoted = kept.few_quoted;
