@@ -1,6 +1,9 @@
 -- Loops that read what a definition with a bound on its steps reads.
-use Rattle.std.proofs.Common.{◌≡◌, ℕ, zero, suc, ◌<◌, ◌≤◌, Result, refl, ◌∙◌, arith}
+use Rattle.std.proofs.Common.{◌≡◌, ◌≢◌, ℕ, zero, suc, ◌+◌, ◌<◌, ◌≤◌, Result, length, refl, ap, ◌∙◌, arith}
 use Rattle.wb_base.specs.declared.faults.Fault.{Fault}
+use Rattle.web_lex.specs.Reading.{Reading}
+use Rattle.web_lex.specs.Token.{Token, end_of_input}
+use Rattle.web_scan.specs.Scanned.{Scanning, most_tokens}
 
 -- a rest of the bound, with which the definition reads from now on what it reads from the start
 pub record Reached {S A : Type 0} (size : S → ℕ) (read : ℕ → S → Result A Fault) (start now : S) (most : ℕ) : Type 0 where
@@ -55,3 +58,28 @@ pub StillReads-stops :
 StillReads-stops size read start now result still some stops most enough =
     let reached = still most enough in
     Reached-stops size read start now result most reached.left reached.enough reached.same some stops
+
+-- the last step of a scanner
+pub scanning_stops :
+    {A : Type 0} (read : ℕ → Scanning → Result A Fault) (start now : Scanning) (result : Result A Fault)
+    → StillReads most_tokens read start now → ((left : ℕ) → read (suc left) now ≡ result)
+    → (most : ℕ) → length start.reading.rest < most → read most start ≡ result
+scanning_stops read start now result still stops most enough =
+    StillReads-stops most_tokens read start now result still (omega arith) stops most (omega arith)
+
+-- one step more, after a token that is not the end of the input, and after which the rest is no longer
+pub scanning_more :
+    {A : Type 0} (read : ℕ → Scanning → Result A Fault) (start now after next : Scanning) (token : Token)
+    → StillReads most_tokens read start now → token ≢ end_of_input
+    → (token ≢ end_of_input → length after.reading.rest < length now.reading.rest)
+    → length next.reading.rest ≤ length after.reading.rest
+    → ((left : ℕ) → read (suc left) now ≡ read left next) → StillReads most_tokens read start next
+scanning_more read start now after next token still other shorter same step =
+    let less = shorter other in
+    StillReads-more most_tokens read start now next still (omega arith) step
+
+-- the same rest
+pub same_rest : (a b : Reading) → a ≡ b → length a.rest ≤ length b.rest
+same_rest a b same =
+    let is : length a.rest ≡ length b.rest = ap (λ (reading : Reading). length reading.rest) same in
+    omega arith

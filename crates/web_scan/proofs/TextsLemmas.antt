@@ -12,11 +12,12 @@ use Rattle.wb_base.specs.declared.tokens.Tok.TheVariants as tok
 use Rattle.wb_base.specs.FaultAt.{limit_passed}
 use Rattle.wb_base.specs.Steps.{◌>>=◌}
 use Rattle.web_lex.specs.declared.codes.Code.{Code}
-use Rattle.web_lex.specs.Token.{Token, sign}
+use Rattle.web_lex.specs.Token.{Token, end_of_input}
+use Rattle.web_scan.proofs.StepsLemmas.{StillReads, scanning_stops, scanning_more, same_rest}
 use Rattle.web_names.specs.declared.classes.Class.{Class}
 use Rattle.web_scan.specs.declared.limits.TheConstants.{TOKEN_LIMIT}
 use Rattle.web_scan.specs.Limits.{stored, with_room}
-use Rattle.web_scan.specs.Scanned.{Scanned, Scanning, token_read}
+use Rattle.web_scan.specs.Scanned.{Scanned, Scanning, token_read, most_tokens}
 use Rattle.web_scan.specs.Texts.{opened_after, still_open, stored_since, text_token, ended_text, ending_code, macro_text, macro_text_from}
 
 -- a token more, or one that ends the text
@@ -119,3 +120,65 @@ pub still_open-le : (first : ℕ) (web : Scanned) → still_open (stored_since f
 still_open-le first web =
     let text = fold-le (drop first web.tokens) 0 in
     omega (arith, length-drop first web.tokens)
+
+-- a token that ends no macro's text is not the end of the input
+pub not_end : (token : Token) → ending_code token ≡ None → token ≢ end_of_input
+not_end token goes_on is = let wrong = ap ending_code (sym is) ∙ goes_on in absurd cc
+
+-- the text of a macro is still what is read, where one token more was stored
+pub macro_text-step :
+    (kind kind' : Class) (first first' : ℕ) (start now read next : Scanning) (token : Token)
+    → StillReads most_tokens (λ most. macro_text most kind first) start now → kind' ≡ kind → first' ≡ first
+    → token_read now ≡ Ok (token, read)
+    → (token ≢ end_of_input → length read.reading.rest < length now.reading.rest)
+    → ending_code token ≡ None → text_token kind' first' token read ≡ Ok next → next.reading ≡ read.reading
+    → StillReads most_tokens (λ most. macro_text most kind first) start next
+macro_text-step kind kind' first first' start now read next token still same_kind same_first is shorter goes_on stores same =
+    let stores' = ap (λ kind. text_token kind first token read) (sym same_kind)
+    ∙ ap (λ first. text_token kind' first token read) (sym same_first) ∙ stores in
+    scanning_more (λ most. macro_text most kind first) start now read next token still (not_end token goes_on) shorter
+    (same_rest next.reading read.reading same)
+    (λ left. macro_text-more kind first now read next token left is goes_on stores')
+
+pub macro_text-refuses :
+    (kind kind' : Class) (first first' : ℕ) (start now read : Scanning) (token : Token) (fault : Fault)
+    → StillReads most_tokens (λ most. macro_text most kind first) start now → kind' ≡ kind → first' ≡ first
+    → token_read now ≡ Ok (token, read)
+    → ending_code token ≡ None → text_token kind' first' token read ≡ Err fault
+    → (most : ℕ) → length start.reading.rest < most → macro_text most kind first start ≡ Err fault
+macro_text-refuses kind kind' first first' start now read token fault still same_kind same_first is goes_on refuses =
+    let refuses' = ap (λ kind. text_token kind first token read) (sym same_kind)
+    ∙ ap (λ first. text_token kind' first token read) (sym same_first) ∙ refuses in
+    scanning_stops (λ most. macro_text most kind first) start now (Err fault) still
+    (λ left. macro_text-refused kind first now read token fault left is goes_on refuses')
+
+pub macro_text-done :
+    (kind : Class) (first first' : ℕ) (start now read : Scanning) (token : Token) (code : Code)
+    → StillReads most_tokens (λ most. macro_text most kind first) start now → first' ≡ first
+    → token_read now ≡ Ok (token, read) → ending_code token ≡ Some code
+    → ended_text first' read ≡ Ok (stored_since first' read.web)
+    → (most : ℕ) → length start.reading.rest < most
+    → macro_text most kind first start ≡ Ok (stored_since first read.web, code, read)
+macro_text-done kind first first' start now read token code still same is ends balanced =
+    let balanced' = ap (λ first. ended_text first read) (sym same) ∙ balanced
+    ∙ ap (λ first. Ok (stored_since first read.web)) same in
+    scanning_stops (λ most. macro_text most kind first) start now _ still
+    (λ left. macro_text-ends kind first now read token code (stored_since first read.web) left is ends balanced')
+
+pub macro_text-unbalanced :
+    (kind : Class) (first first' : ℕ) (start now read : Scanning) (token : Token) (code : Code) (fault : Fault)
+    → StillReads most_tokens (λ most. macro_text most kind first) start now → first' ≡ first
+    → token_read now ≡ Ok (token, read) → ending_code token ≡ Some code → ended_text first' read ≡ Err fault
+    → (most : ℕ) → length start.reading.rest < most → macro_text most kind first start ≡ Err fault
+macro_text-unbalanced kind first first' start now read token code fault still same is ends unended =
+    let unended' = ap (λ first. ended_text first read) (sym same) ∙ unended in
+    scanning_stops (λ most. macro_text most kind first) start now (Err fault) still
+    (λ left. macro_text-open kind first now read token code fault left is ends unended')
+
+pub macro_text-fault :
+    (kind : Class) (first : ℕ) (start now : Scanning) (fault : Fault)
+    → StillReads most_tokens (λ most. macro_text most kind first) start now → token_read now ≡ Err fault
+    → (most : ℕ) → length start.reading.rest < most → macro_text most kind first start ≡ Err fault
+macro_text-fault kind first start now fault still is =
+    scanning_stops (λ most. macro_text most kind first) start now (Err fault) still
+    (λ left. macro_text-unread kind first now fault left is)

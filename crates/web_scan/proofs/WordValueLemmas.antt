@@ -2,7 +2,8 @@
 use Rattle.std.proofs.Common.{◌≡◌, ◌≢◌, ℕ, ℤ, ◌<◌, ◌≤◌, ◌⊎◌, inl, inr, Bool, true, false, List, [], ◌∷◌, ◌++◌, map, length}
 use Rattle.std.proofs.Common.{Option, Some, None, Result, Ok, Err, refl, sym, ap, ◌∙◌, arith}
 use Rattle.std.specs.Prelude.{slice_get, pos, ◌==◌, if◌then◌else◌, option_map}
-use Rattle.std.proofs.lemmas.Bool.{ne_eqb, cases_lt, eqb_refl}
+use Rattle.std.proofs.lemmas.Bool.{ne_eqb, cases_lt}
+use Rattle.std.proofs.lemmas.Bool.Decides.{eqb_tells}
 use Rattle.std.proofs.lemmas.Option.{slice_get-map}
 use Rattle.wb_base.specs.declared.options.Options.{Options}
 use Rattle.web_names.proofs.NameLemmas.{with_name-kept, with_name-full, used-held, used-new, slice_get-push_last}
@@ -10,8 +11,17 @@ use Rattle.web_names.specs.declared.classes.Class.{Class}
 use Rattle.web_names.specs.declared.classes.Class.TheVariants as class
 use Rattle.web_names.specs.declared.name_errors.NameErr.{NameErr}
 use Rattle.web_names.specs.declared.name_errors.NameErr.TheVariants as refusal
-use Rattle.web_names.specs.Identifiers.{Name, id_of, is_numeric, is_in_conflict, new_name, with_name, used, used_at, name_limit}
-use Rattle.web_scan.specs.Numeric.{name_value, word_value}
+use Rattle.web_names.specs.Refusals.{IfRefused}
+use Rattle.web_names.specs.Identifiers.{Name, Identifiers, id_of, is_numeric, is_in_conflict, new_name, with_name, used, used_at, name_limit}
+use Rattle.wb_base.specs.declared.faults.Fault.{Fault}
+use Rattle.wb_base.specs.declared.faults.WorkErr.{WorkErr}
+use Rattle.wb_base.specs.declared.faults.WorkErr.TheVariants.{Fault as of_input}
+use Rattle.wb_base.specs.declared.faults.TheConstants.{BAD_NUMERIC_DEFINITION}
+use Rattle.wb_base.specs.declared.places.Place.{Place}
+use Rattle.wb_base.specs.FaultAt.{fault_at}
+use Rattle.wb_base.specs.WorkResult.{IfFault}
+use Rattle.std.specs.Result.{IsErrOf}
+use Rattle.web_scan.specs.Numeric.{Term, constant, name_value, word_value, with_constant}
 
 -- the class and value of a name
 abbrev pub kind_of : Name → Class × ℤ
@@ -79,11 +89,36 @@ refused_by (Some place) options word names error is refuses =
     absurd (let wrong = sym (used-held options word names place is) ∙ refuses in cc)
 refused_by None options word names error is refuses = is
 
+unknown :
+    (options : Options) (word : List ℕ) (names : List Name) (error : NameErr)
+    → IfRefused {T = ℕ} (Err error) (λ refusal. used options word names ≡ Err refusal)
+    → (IsErrOf {T = ℕ} (Err error) refusal.OutOfMemory → id_of word names ≡ None) → id_of word names ≡ None
+unknown options word names refusal.OutOfMemory refused memory = memory refl
+unknown options word names other refused memory = refused_by (id_of word names) options word names other refl refused
+
 pub value-refused :
     (defining : ℕ) (options : Options) (word : List ℕ) (names : List Name) (error : NameErr)
-    → used options word names ≡ Err error → word_value defining (id_of word names) names ≡ None
-value-refused defining options word names error refuses =
-    ap (λ at. word_value defining at names) (refused_by (id_of word names) options word names error refl refuses)
+    → IfRefused {T = ℕ} (Err error) (λ refusal. used options word names ≡ Err refusal)
+    → (IsErrOf {T = ℕ} (Err error) refusal.OutOfMemory → id_of word names ≡ None)
+    → word_value defining (id_of word names) names ≡ None
+value-refused defining options word names error refused memory =
+    ap (λ at. word_value defining at names) (unknown options word names error refused memory)
+
+-- what is answered for a word without a value
+pub none_refused :
+    (T : Type 0) (r : Result T WorkErr) (place : Place) (defining : ℕ) (word : List ℕ) (names now : List Name) → names ≡ now
+    → word_value defining (id_of word names) names ≡ None → r ≡ Err (of_input (fault_at BAD_NUMERIC_DEFINITION place))
+    → IfFault r (λ fault. (terms : List Term) → with_constant place (word_value defining (id_of word now) now) terms ≡ Err fault)
+none_refused T r place defining word names now same none is =
+    rw is (λ terms. ap (λ (names : List Name). with_constant place (word_value defining (id_of word names) names) terms) (sym same)
+    ∙ ap (λ value. with_constant place value terms) none)
+
+-- two lists of names with the same options
+pub same_identifiers : (a b : Identifiers) → a.options ≡ b.options → a.names ≡ b.names → a ≡ b
+same_identifiers a b options names =
+    let with_options : Options → Identifiers = λ options. record { options = options; names = a.names } in
+    let with_names : List Name → Identifiers = λ names. record { options = b.options; names = names } in
+    ap with_options options ∙ ap with_names names
 
 -- the value of the name with this id
 by_found :
@@ -115,7 +150,11 @@ none_found defining id (Some name) kind value is (inl other) =
     let same = same_kind (kind_of name) (kind, value) (Some (kind_of name)) refl is in
     let is_kind : name.class ≡ kind = ap (λ p. p.0) same in
     none_at (id == defining) name.class name.value (λ numeric. other (sym is_kind ∙ numeric))
-none_found defining id (Some name) kind value is (inr defined) = rw (defined, eqb_refl defining) refl
+none_found defining id (Some name) kind value is (inr defined) =
+    elim (eqb_tells id defining) [
+      | inl same ↦ rw same.0 refl
+      | inr other ↦ absurd (other.1 defined)
+    ]
 
 -- the value of a numeric macro
 pub record IsValueOf (defining : ℕ) (word : List ℕ) (names after : List Name) (value : ℤ) : Type 0 where
@@ -147,3 +186,13 @@ value-none defining word names id after kind value (held is same) at other =
     ∙ none_found defining id (slice_get names id) kind value
     (sym (slice_get-map kind_of names id) ∙ ap (λ (after : List Name). slice_get (map kind_of after) id) (sym same) ∙ at) other
 value-none defining word names id after kind value (new is ordinary) at other = ap (λ at. word_value defining at names) is
+
+-- what is answered for a word with a value
+pub some_known :
+    (place : Place) (defining : ℕ) (word : List ℕ) (names now : List Name) (value other : ℤ) → names ≡ now
+    → word_value defining (id_of word names) names ≡ Some value → other ≡ value → (terms : List Term)
+    → with_constant place (word_value defining (id_of word now) now) terms ≡ Ok (constant other ∷ terms)
+some_known place defining word names now value other same some is terms =
+    ap (λ (names : List Name). with_constant place (word_value defining (id_of word names) names) terms) (sym same)
+    ∙ ap (λ value. with_constant place value terms) some
+    ∙ ap (λ value. Ok (constant value ∷ terms)) (sym is)

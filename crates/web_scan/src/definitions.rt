@@ -3,14 +3,29 @@ ghost use Rattle.std.specs.Prelude.{◌≡◌, ◌≢◌, ◌<◌, ◌≤◌, le
 ghost use Rattle.wb_base.specs.WorkResult.{IfFault};
 ghost use Rattle.wb_base.specs.FaultAt.{fault_at};
 ghost use Rattle.wb_base.specs.declared.faults.WorkErr.TheVariants.{Fault as of_input};
+ghost use Rattle.web_lex.specs.Token.{token_of};
 ghost use Rattle.web_scan.specs.Scanned.{place_of_last};
-ghost use Rattle.web_scan.specs.Definitions.{definition, class_read, parameter_read, expected, is_sign, right_side_read};
+ghost use Rattle.web_scan.specs.Definitions.{definition, class_read, parameter_read, expected, is_sign, is_same, right_side_read};
 
 use crate::scanner::Scanner;
 use wb_base::faults::BAD_DEFINITION;
 use wb_base::{Fault, Joined, Place, WorkErr};
 use web_lex::{Code, Lexed};
 use web_names::Class;
+
+// Whether a token is this sign.
+pub(crate) fn is_sign(byte: u8, token: Lexed<'_>) -> bool
+    ensures { result ≡ is_sign byte (token_of token.entry) }
+{
+    matches!(token, Lexed::Sign(other) if other == byte)
+}
+
+// Whether a token is `==`.
+pub(crate) fn is_same(token: Lexed<'_>) -> bool
+    ensures { result ≡ is_same (token_of token.entry) }
+{
+    matches!(token, Lexed::Joined(Joined::Same))
+}
 
 impl<'l> Scanner<'l> {
     // Reads a definition after its `@d`, and answers the code that ends it.
@@ -62,9 +77,10 @@ impl<'l> Scanner<'l> {
     {
         self.expect_sign(b'#')?;
         self.expect_sign(b')')?;
-        match self.token()? {
-            Lexed::Joined(Joined::Same) => Ok(()),
-            _ => Err(self.bad_definition()),
+        if is_same(self.token()?) {
+            Ok(())
+        } else {
+            Err(self.bad_definition())
         }
     }
 
@@ -74,9 +90,10 @@ impl<'l> Scanner<'l> {
         ensures fault { IfFault result (λ fault. expected BAD_DEFINITION (is_sign wanted) self.old ≡ Err fault) }
         ensures not_longer { OnOk result (length self.new.reading.rest ≤ length self.old.reading.rest) }
     {
-        match self.token()? {
-            Lexed::Sign(byte) if byte == wanted => Ok(()),
-            _ => Err(self.bad_definition()),
+        if is_sign(wanted, self.token()?) {
+            Ok(())
+        } else {
+            Err(self.bad_definition())
         }
     }
 

@@ -222,14 +222,19 @@ impl Parts {
             ≡ Err fault) }
         ensures unchanged { OnOk result (self.new ≡ self.old) }
     {
+        let refusal = WorkErr::Fault(Fault::at(BAD_NUMERIC_DEFINITION, place));
         let id = match self.names.intern(word) {
             Ok(id) => id,
             Err(NameErr::OutOfMemory) => return Err(WorkErr::OutOfMemory),
-            Err(_) => return Err(Fault::at(BAD_NUMERIC_DEFINITION, place).into()),
+            Err(_) => return Err(refusal),
         };
-        match self.names.kind(id) {
-            (Class::Numeric, value) if id != defining => Ok(value),
-            _ => Err(Fault::at(BAD_NUMERIC_DEFINITION, place).into()),
+        if id == defining {
+            return Err(refusal);
+        }
+        let (class, value) = self.names.kind(id);
+        match class {
+            Class::Numeric => Ok(value),
+            _ => Err(refusal),
         }
     }
 

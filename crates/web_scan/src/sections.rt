@@ -4,13 +4,24 @@ ghost use Rattle.wb_base.specs.WorkResult.{IfFault};
 ghost use Rattle.web_scan.specs.Texts.{still_open, stored_since};
 ghost use Rattle.web_scan.specs.Sections.{sections, section, section_parts, named_text, head_read, pascal_text, section_text, section_used};
 ghost use Rattle.web_scan.specs.inner.Open.{IsOpen};
+ghost use Rattle.web_scan.specs.inner.Ended.{section_ended};
+ghost use Rattle.web_lex.specs.Token.{token_of};
+ghost use Rattle.web_scan.specs.Sections.{is_equals};
 
 use crate::scanner::Scanner;
-use crate::texts::OpenText;
+use crate::definitions::{is_same, is_sign};
+use crate::texts::{OpenText, ending_code};
 use wb_base::faults::{DEFINITION_IN_PASCAL, NO_EQUALS_SIGN};
-use wb_base::{Fault, Joined, Tok, WorkErr};
+use wb_base::{Fault, Tok, WorkErr};
 use web_lex::{Code, Lexed};
 use web_names::Class;
+
+// Whether a token ends the head of a named text: `=` or `==`.
+fn is_equals(token: Lexed<'_>) -> bool
+    ensures { result ≡ is_equals (token_of token.entry) }
+{
+    is_sign(b'=', token) || is_same(token)
+}
 
 impl<'l> Scanner<'l> {
     // Scans the sections of a web from a code on. What stands before the first is passed.
@@ -84,10 +95,12 @@ impl<'l> Scanner<'l> {
         ensures not_longer { OnOk result (length self.new.reading.rest ≤ length self.old.reading.rest) }
     {
         loop {
-            match self.token()? {
-                Lexed::Sign(b'+') => {}
-                Lexed::Sign(b'=') | Lexed::Joined(Joined::Same) => return Ok(()),
-                _ => return Err(Fault::at(NO_EQUALS_SIGN, self.place()).into()),
+            let token = self.token()?;
+            if is_equals(token) {
+                return Ok(());
+            }
+            if !is_sign(b'+', token) {
+                return Err(Fault::at(NO_EQUALS_SIGN, self.place()).into());
             }
         }
     }
@@ -106,7 +119,8 @@ impl<'l> Scanner<'l> {
 
     // Scans the tokens of a section's text, and answers the code that ends it.
     fn section_text(&mut self, text: &mut OpenText) -> Result<Code, WorkErr>
-        requires { IsOpen text.old self.old.web }
+        requires open { IsOpen text.old self.old.web }
+        requires class { text.old.class ≡ Class.Ordinary }
         ensures ok { IfOk result (λ code. (most : ℕ) → length self.old.reading.rest < most
             → section_text most text.old.first self.old
             ≡ Ok (stored_since text.old.first self.new.web, code, self.new)) }
@@ -118,21 +132,30 @@ impl<'l> Scanner<'l> {
     {
         loop {
             let token = self.token()?;
-            match token {
-                Lexed::End => {
-                    self.check_ended(text)?;
-                    return Ok(Code::End);
-                }
-                Lexed::Code(Code::Section) => {
-                    self.check_ended(text)?;
-                    return Ok(Code::Section);
-                }
-                Lexed::Code(Code::Definition | Code::Format | Code::Pascal) => {
-                    return Err(Fault::at(DEFINITION_IN_PASCAL, self.place()).into());
-                }
-                Lexed::Code(Code::Name) => self.section_used()?,
-                _ => self.text_token(text, token)?,
+            match ending_code(token) {
+                None => self.text_token(text, token)?,
+                Some(code) => match code {
+                    Code::Name => self.section_used()?,
+                    _ => return self.section_end(text, code),
+                },
             }
+        }
+    }
+
+    // A code other than a name's, which ends the text of a macro, in the text of a section: a section start or the end
+    // of the input ends it, and no other may stand in it.
+    fn section_end(&self, text: &OpenText, code: Code) -> Result<Code, WorkErr>
+        requires { IsOpen text.now self.now.web }
+        ensures ok { IfOk result (λ ended. section_ended text.now.first code self.now
+            ≡ Ok (stored_since text.now.first self.now.web, ended, self.now)) }
+        ensures fault { IfFault result (λ fault. section_ended text.now.first code self.now ≡ Err fault) }
+    {
+        match code {
+            Code::End | Code::Section => {
+                self.check_ended(text)?;
+                Ok(code)
+            }
+            _ => Err(Fault::at(DEFINITION_IN_PASCAL, self.place()).into()),
         }
     }
 

@@ -9,7 +9,7 @@ abbrev pub invariant-loop-token : goal.invariant-loop-token
 invariant-loop-token l = record {
   still : StillReads most_tokens (λ most. macro_text most l.initial.text.class l.initial.text.first)
       l.initial.self l.self;
-  open : IsOpen l.text l.self.web;
+  opened : IsOpen l.text l.self.web;
   class : l.text.class ≡ l.initial.text.class;
   first : l.text.first ≡ l.initial.text.first;
   not_longer : length l.self.reading.rest ≤ length l.initial.self.reading.rest;
