@@ -1,23 +1,21 @@
 //! What a web gives, as far as it was scanned.
-ghost use Rattle.std.specs.Prelude.{◌≡◌, ◌≢◌, ◌+◌, ◌<◌, ◌≤◌, [], ◌∷◌, ◌++◌, Some, None, Ok, Err, IfOk, IfErr, OnOk, length, map, take, drop, slice_get, pos};
+ghost use Rattle.std.specs.Prelude.{◌≡◌, ◌≢◌, ◌+◌, ◌<◌, ◌≤◌, [], ◌∷◌, ◌++◌, Some, None, Ok, Err, IfOk, IfErr, OnOk, length, take, drop, slice_get, pos, All, ℕ};
 ghost use Rattle.wb_base.specs.WorkResult.{IfFault};
 ghost use Rattle.wb_base.specs.declared.tokens.Tok.TheVariants as tok;
 ghost use Rattle.web_names.specs.Identifiers.{folded};
 ghost use Rattle.web_pool.specs.Strings.{numbered};
-ghost use Rattle.web_scan.specs.inner.Under.{pieces_in, with_piece_under};
+ghost use Rattle.web_scan.specs.Pieces.{IsPieceWithin};
+ghost use Rattle.web_scan.specs.inner.Under.{pieces_in, with_piece_under, AreWithin};
 
 use crate::limits::{SECTION_LIMIT, TOKEN_LIMIT};
 use crate::pieces::{Piece, Span};
 use crate::refusals::{refused_name, refused_string};
 use std::alloc::Global;
 use std::marker::Model;
-use wb_base::faults::{
-    BAD_NUMERIC_DEFINITION, LIMIT_NAMES, LIMIT_SECTION_NAMES, LIMIT_SECTIONS, LIMIT_STRINGS,
-    LIMIT_TOKENS,
-};
+use wb_base::faults::{LIMIT_NAMES, LIMIT_SECTION_NAMES, LIMIT_SECTIONS, LIMIT_TOKENS};
 use wb_base::{Fault, Options, OutOfMemory, Place, Text, Tok, WorkErr};
 use web_lex::SectionName;
-use web_names::{Class, NameErr, Names, Sections, printed_letter};
+use web_names::{Class, Names, Sections, printed_letter};
 use web_pool::{Pool, PoolErr};
 
 // What the web gives so far. To contracts it is the lists of the definition, in which texts are whole.
@@ -205,24 +203,6 @@ impl Parts {
         }
     }
 
-    // The value of a word in a numeric definition of the name with this id: that of a numeric macro, but of no other
-    // word.
-    pub(crate) fn word_value(
-        &mut self,
-        place: Place,
-        defining: u32,
-        word: &[u8],
-    ) -> Result<i32, WorkErr> {
-        match self.names.intern(word) {
-            Ok(id) => match self.names.kind(id) {
-                (Class::Numeric, value) if id != defining => Ok(value),
-                _ => Err(Fault::at(BAD_NUMERIC_DEFINITION, place).into()),
-            },
-            Err(NameErr::OutOfMemory) => Err(WorkErr::OutOfMemory),
-            Err(_) => Err(Fault::at(BAD_NUMERIC_DEFINITION, place).into()),
-        }
-    }
-
     // Gives a numeric macro its value.
     pub(crate) fn set_value(&mut self, id: u32, value: i32)
         requires { id < length self.old.names.names }
@@ -292,7 +272,9 @@ impl Parts {
 
 // Adds a text under the name with this place.
 fn push_under(named: &mut Vec<Vec<Piece>>, name: usize, piece: Piece) -> Result<(), OutOfMemory>
-    ensures { OnOk result (pieces_in named.new.items ≡ with_piece_under name piece (pieces_in named.old.items)) }
+    ensures ok { OnOk result (pieces_in named.new.items ≡ with_piece_under name piece (pieces_in named.old.items)) }
+    ensures within { (size : ℕ) → IsPieceWithin size piece → AreWithin size named.old.items
+        → AreWithin size named.new.items }
 {
     let alloc = *named.allocator();
     'padded: while named.len() <= name {
@@ -308,14 +290,16 @@ impl Parts {
 
     // The texts of the unnamed section.
     pub(crate) fn unnamed(&self) -> &[Piece]
-        ensures { pascal_texts_at self.now.tokens result.now ≡ self.now.unnamed }
+        ensures texts { pascal_texts_at self.now.tokens result.now ≡ self.now.unnamed }
+        ensures within { All (IsPieceWithin (length self.now.tokens)) result.now }
     {
         &self.unnamed
     }
 
     // The texts under the name with this place.
     pub(crate) fn pieces(&self, section: u32) -> &[Piece]
-        ensures { pascal_texts_at self.now.tokens result.now ≡ texts_under section self.now.named }
+        ensures texts { pascal_texts_at self.now.tokens result.now ≡ texts_under section self.now.named }
+        ensures within { All (IsPieceWithin (length self.now.tokens)) result.now }
     {
         match self.named.get(section as usize) {
             Some(pieces) => pieces,
