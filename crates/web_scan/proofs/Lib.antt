@@ -1,4 +1,5 @@
 mod NamesLemmas
 mod PartsLemmas
+pub mod ReadingLemmas
 mod StringsLemmas
 mod UnderLemmas
