@@ -12,10 +12,12 @@ use crate::pieces::{Piece, Span};
 use crate::refusals::{refused_name, refused_string};
 use std::alloc::Global;
 use std::marker::Model;
-use wb_base::faults::{LIMIT_NAMES, LIMIT_SECTION_NAMES, LIMIT_SECTIONS, LIMIT_TOKENS};
+use wb_base::faults::{
+    BAD_NUMERIC_DEFINITION, LIMIT_NAMES, LIMIT_SECTION_NAMES, LIMIT_SECTIONS, LIMIT_TOKENS,
+};
 use wb_base::{Fault, Options, OutOfMemory, Place, Text, Tok, WorkErr};
 use web_lex::SectionName;
-use web_names::{Class, Names, Sections, printed_letter};
+use web_names::{Class, NameErr, Names, Sections, printed_letter};
 use web_pool::{Pool, PoolErr};
 
 // What the web gives so far. To contracts it is the lists of the definition, in which texts are whole.
@@ -200,6 +202,24 @@ impl Parts {
         match self.names.define(word, class) {
             Ok(id) => Ok(id),
             Err(refusal) => Err(refused_name(LIMIT_NAMES, place, refusal)),
+        }
+    }
+
+    // The value of a word in a numeric definition of the name with this id: that of a numeric macro, but of no other
+    // word.
+    pub(crate) fn word_value(
+        &mut self,
+        place: Place,
+        defining: u32,
+        word: &[u8],
+    ) -> Result<i32, WorkErr> {
+        match self.names.intern(word) {
+            Ok(id) => match self.names.kind(id) {
+                (Class::Numeric, value) if id != defining => Ok(value),
+                _ => Err(Fault::at(BAD_NUMERIC_DEFINITION, place).into()),
+            },
+            Err(NameErr::OutOfMemory) => Err(WorkErr::OutOfMemory),
+            Err(_) => Err(Fault::at(BAD_NUMERIC_DEFINITION, place).into()),
         }
     }
 
