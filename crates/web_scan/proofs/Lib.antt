@@ -1,10 +1,12 @@
 mod NamesLemmas
 pub mod NumericLemmas
 mod PartsLemmas
+pub mod ReadingLemmas
 pub mod ResultLemmas
 pub mod ScannerLemmas
+pub mod SectionsLemmas
 pub mod StepsLemmas
 mod StringsLemmas
-mod UnderLemmas
 pub mod TextsLemmas
+mod UnderLemmas
 pub mod WordValueLemmas

@@ -1,14 +1,14 @@
 -- How many names there are after a use or a definition, and that its id is one of them.
-use Rattle.std.proofs.Common.{◌≡◌, ℕ, ℤ, Bool, true, false, not, if◌then◌else◌, zero, suc, ◌+◌, ◌<◌, ◌≤◌, List, [], ◌∷◌, ◌++◌, length, Option, Some, None, Result, Ok, Err, refl, sym, ap, ◌∙◌, subst, inl, inr, arith, length-append}
+use Rattle.std.proofs.Common.{◌≡◌, ℕ, ℤ, Bool, true, false, not, if◌then◌else◌, zero, suc, ◌+◌, ◌<◌, ◌≤◌, List, [], ◌∷◌, ◌++◌, length, Option, Some, None, Result, Ok, Err, refl, sym, ap, ◌∙◌, inl, inr, arith, length-append}
 use Rattle.std.proofs.lemmas.Bool.{cases_lt}
 use Rattle.std.proofs.lemmas.List.Quantifiers.{position-Some}
 use Rattle.wb_base.specs.declared.options.Options.{Options}
-use Rattle.web_names.proofs.NameLemmas.{with_name-kept, with_name-full, used-held, used-new, defined-held, defined-new}
+use Rattle.web_names.proofs.NameLemmas.{with_name-kept, with_name-full}
 use Rattle.web_names.specs.declared.classes.Class.{Class}
 use Rattle.web_names.specs.declared.classes.Class.TheVariants as class
 use Rattle.web_names.specs.declared.name_errors.NameErr.{NameErr}
 use Rattle.web_names.specs.declared.name_errors.NameErr.TheVariants as refusal
-use Rattle.web_names.specs.Identifiers.{Name, Identifiers, id_of, is_named, is_ordinary, is_numeric, is_in_conflict, class_of, new_name, with_name, used, used_at, defined, defined_at, defined_again, changed_at, with_class, with_value, name_limit}
+use Rattle.web_names.specs.Identifiers.{Name, id_of, is_named, is_ordinary, is_numeric, is_in_conflict, class_of, new_name, with_name, used, used_at, defined, defined_at, defined_again, changed_at, with_class, with_value, name_limit}
 
 -- not more than there may be, and this id among them
 pub record IsAmong (id : ℕ) (names : List Name) : Type 0 where

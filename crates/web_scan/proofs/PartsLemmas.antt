@@ -1,15 +1,18 @@
--- Texts stay the same where more tokens are stored.
-use Rattle.std.proofs.Common.{◌≡◌, ℕ, zero, suc, ◌+◌, ◌<◌, ◌≤◌, List, [], ◌∷◌, ◌++◌, length, take, drop, map, All, Vec, refl, sym, ap, ◌∙◌, arith, length-append, length-drop}
-use Rattle.std.proofs.lemmas.List.{drop-append-le, take-append-le}
+-- The parts of a web after one more token, and after the text of one more section.
+use Rattle.std.proofs.Common.{◌≡◌, ℕ, ◌+◌, ◌-◌, ◌≤◌, List, [], ◌∷◌, ◌++◌, length, take, drop, map, All, Vec, Some, refl, ap, ◌∙◌, arith, length-drop}
+use Rattle.std.proofs.lemmas.List.{drop-append-le, take-append-le, take_all}
 use Rattle.std.proofs.lemmas.List.Elements.{All-head, All-tail}
 use Rattle.wb_base.specs.declared.tokens.Tok.{Tok}
 use Rattle.std.specs.declared.alloc.Global.{Global}
 use Rattle.web_scan.specs.declared.parts.Parts.TheInside.{Inside}
 use Rattle.web_scan.specs.declared.pieces.Piece.{Piece}
 use Rattle.web_scan.specs.declared.pieces.Span.{Span}
-use Rattle.web_scan.specs.Scanned.{PascalText, Scanned}
-use Rattle.web_scan.specs.Pieces.{pascal_text_at, pascal_texts_at}
-use Rattle.web_scan.specs.inner.PartsView.{text_at, IsSpanWithin, IsPieceWithin, scanned_in, IsKept}
+use Rattle.web_scan.specs.Scanned.{PascalText, Scanned, with_text_under}
+use Rattle.web_scan.specs.Sections.{with_pascal_text}
+use Rattle.web_scan.specs.Pieces.{pascal_text_at, pascal_texts_at, IsPieceWithin}
+use Rattle.web_scan.specs.inner.Under.{pieces_in, with_piece_under}
+use Rattle.web_scan.proofs.UnderLemmas.{texts_in, texts_in-with_piece_under}
+use Rattle.web_scan.specs.inner.PartsView.{text_at, IsSpanWithin, scanned_in, IsKept}
 
 -- a range of a list with one more element
 pub range-push :
@@ -87,3 +90,29 @@ scanned_in-push parts more token kept is =
     ∙ ap (λ texts. with_texts parts new texts (pascal_texts_at more.items parts.unnamed.items) (map (λ pieces. pascal_texts_at more.items pieces.items) parts.named.items)) texts
     ∙ ap (λ texts. with_texts parts new (map (text_at old) parts.texts.items) texts (map (λ pieces. pascal_texts_at more.items pieces.items) parts.named.items)) unnamed
     ∙ ap (with_texts parts new (map (text_at old) parts.texts.items) (pascal_texts_at old parts.unnamed.items)) named
+
+-- the range of the tokens after the first ones
+pascal_text_at-rest :
+    (tokens : List Tok) (number first count : ℕ) → count ≡ length tokens - first
+    → pascal_text_at tokens (record { number = number; first = first; count = count })
+    ≡ record { number = number; text = drop first tokens }
+pascal_text_at-rest tokens number first count all =
+    let whole : take count (drop first tokens) ≡ drop first tokens =
+    take_all count (drop first tokens) (omega (arith, length-drop first tokens)) in
+    ap (λ (text : List Tok). let made : PascalText = record { number = number; text = text } in made) whole
+
+-- the parts of a web with the text of its last section under a name
+pub scanned_in-under :
+    (parts : Inside) (new : Vec (Vec Piece Global) Global) (name first count : ℕ) (web : Scanned)
+    → scanned_in parts ≡ web → count ≡ length parts.tokens.items - first
+    → pieces_in new.items
+    ≡ with_piece_under name (record { number = parts.count; first = first; count = count })
+    (pieces_in parts.named.items)
+    → scanned_in (record parts { named = new }) ≡ with_pascal_text (Some name) (drop first web.tokens) web
+scanned_in-under parts new name first count web is all more =
+    let tokens = parts.tokens.items in
+    let under : List (List PascalText) → Scanned = λ named. record (scanned_in parts) { named = named } in
+    let text = pascal_text_at-rest tokens parts.count first count all in
+    ap under (texts_in-with_piece_under name _ tokens parts.named.items new.items more)
+    ∙ ap (λ text. under (with_text_under name text (texts_in tokens parts.named.items))) text
+    ∙ ap (λ (web : Scanned). with_pascal_text (Some name) (drop first web.tokens) web) is

@@ -144,13 +144,16 @@ none_at false kind value other = none_by_class kind value other
 
 none_found :
     (defining id : ℕ) (found : Option Name) (kind : Class) (value : ℤ) → option_map kind_of found ≡ Some (kind, value)
-    → (kind ≢ class.Numeric) ⊎ (id ≡ defining) → name_value defining id found ≡ None
+    → kind ≢ class.Numeric → name_value defining id found ≡ None
 none_found defining id None kind value is other = refl
-none_found defining id (Some name) kind value is (inl other) =
+none_found defining id (Some name) kind value is other =
     let same = same_kind (kind_of name) (kind, value) (Some (kind_of name)) refl is in
     let is_kind : name.class ≡ kind = ap (λ p. p.0) same in
     none_at (id == defining) name.class name.value (λ numeric. other (sym is_kind ∙ numeric))
-none_found defining id (Some name) kind value is (inr defined) =
+
+none_defined : (defining id : ℕ) (found : Option Name) → id ≡ defining → name_value defining id found ≡ None
+none_defined defining id None defined = refl
+none_defined defining id (Some name) defined =
     elim (eqb_tells id defining) [
       | inl same ↦ rw same.0 refl
       | inr other ↦ absurd (other.1 defined)
@@ -162,30 +165,38 @@ pub record IsValueOf (defining : ℕ) (word : List ℕ) (names after : List Name
   pub unchanged : after ≡ names
 
 pub value-numeric :
-    (defining : ℕ) (word : List ℕ) (names : List Name) (id : ℕ) (after : List Name) (value : ℤ)
-    → UsedAs word names id after → slice_get (map kind_of after) id ≡ Some (class.Numeric, value) → id ≢ defining
+    (defining : ℕ) (word : List ℕ) (names : List Name) (id : ℕ) (after : List Name) (kind : Class) (value : ℤ)
+    → UsedAs word names id after → slice_get (map kind_of after) id ≡ Some (kind, value) → kind ≡ class.Numeric → id ≢ defining
     → IsValueOf defining word names after value
-value-numeric defining word names id after value (held is same) kind other =
+value-numeric defining word names id after kind value (held is same) at numeric other =
     record {
       value_is = ap (λ at. word_value defining at names) is
           ∙ by_found defining id (slice_get names id) value
-          (sym (slice_get-map kind_of names id) ∙ ap (λ (after : List Name). slice_get (map kind_of after) id) (sym same) ∙ kind) other;
+          (sym (slice_get-map kind_of names id) ∙ ap (λ (after : List Name). slice_get (map kind_of after) id) (sym same) ∙ at
+          ∙ ap (λ kind. Some (kind, value)) numeric) other;
       unchanged = same;
     }
-value-numeric defining word names id after value (new is ordinary) kind other =
-    absurd (let wrong = ap (λ p. p.0) (same_kind _ _ _ ordinary kind) in cc)
+value-numeric defining word names id after kind value (new is ordinary) at numeric other =
+    absurd (let wrong = ap (λ p. p.0) (same_kind _ _ _ ordinary at) in cc)
 
 -- any other word has none
 pub value-none :
     (defining : ℕ) (word : List ℕ) (names : List Name) (id : ℕ) (after : List Name) (kind : Class) (value : ℤ)
     → UsedAs word names id after → slice_get (map kind_of after) id ≡ Some (kind, value)
-    → (kind ≢ class.Numeric) ⊎ (id ≡ defining)
-    → word_value defining (id_of word names) names ≡ None
+    → kind ≢ class.Numeric → word_value defining (id_of word names) names ≡ None
 value-none defining word names id after kind value (held is same) at other =
     ap (λ at. word_value defining at names) is
     ∙ none_found defining id (slice_get names id) kind value
     (sym (slice_get-map kind_of names id) ∙ ap (λ (after : List Name). slice_get (map kind_of after) id) (sym same) ∙ at) other
 value-none defining word names id after kind value (new is ordinary) at other = ap (λ at. word_value defining at names) is
+
+-- nor has the one that is being defined
+pub value-defining :
+    (defining : ℕ) (word : List ℕ) (names : List Name) (id : ℕ) (after : List Name)
+    → UsedAs word names id after → id ≡ defining → word_value defining (id_of word names) names ≡ None
+value-defining defining word names id after (held is same) defined =
+    ap (λ at. word_value defining at names) is ∙ none_defined defining id (slice_get names id) defined
+value-defining defining word names id after (new is ordinary) defined = ap (λ at. word_value defining at names) is
 
 -- what is answered for a word with a value
 pub some_known :

@@ -8,7 +8,6 @@ use Rattle.wb_base.specs.declared.tokens.Tok.TheVariants as tok
 use Rattle.web_lex.specs.Token.{greatest_value}
 use Rattle.web_names.specs.declared.classes.Class.{Class}
 use Rattle.web_names.specs.declared.classes.Class.TheVariants as class
-use Rattle.web_names.specs.Identifiers.{Name}
 use Rattle.web_scan.specs.Numeric.{value_limit}
 use Rattle.web_scan.specs.Scanned.{PascalText, Scanned}
 

@@ -1,5 +1,5 @@
 -- What the pieces of a web stand for.
-use Rattle.std.specs.Prelude.{ℕ, ℤ, List, map, take, drop, slice_get, nat_abs, Option, Some, None, IsSome}
+use Rattle.std.specs.Prelude.{ℕ, ℤ, ◌+◌, ◌≤◌, List, map, take, drop, slice_get, nat_abs, Option, Some, None, IsSome}
 use Rattle.wb_base.specs.declared.tokens.Tok.{Tok}
 use Rattle.web_scan.specs.declared.pieces.Piece.{Piece}
 use Rattle.web_names.specs.declared.classes.Class.{Class}
@@ -11,6 +11,10 @@ use Rattle.web_scan.specs.Scanned.{PascalText, Scanned}
 abbrev pub pascal_text_at : List Tok → Piece → PascalText
 pascal_text_at tokens piece =
     record { number = piece.number; text = take piece.count (drop piece.first tokens) }
+
+-- the range lies within so many stored tokens
+abbrev pub IsPieceWithin : ℕ → Piece → Type 0
+IsPieceWithin size piece = piece.first + piece.count ≤ size
 
 -- Pascal texts
 abbrev pub pascal_texts_at : List Tok → List Piece → List PascalText

@@ -1,11 +1,13 @@
 //! What a web gives, as far as it was scanned.
-ghost use Rattle.std.specs.Prelude.{◌≡◌, ◌≢◌, ◌+◌, ◌<◌, ◌≤◌, List, [], ◌∷◌, ◌++◌, Some, None, Ok, Err, IfOk, IfErr, OnOk, length, map, take, drop, slice_get, pos};
+ghost use Rattle.std.specs.Prelude.{◌≡◌, ◌≢◌, ◌+◌, ◌<◌, ◌≤◌, ℕ, List, [], ◌∷◌, ◌++◌, Some, None, Ok, Err, IfOk, IfErr, OnOk};
+ghost use Rattle.std.specs.Prelude.{length, take, drop, slice_get, pos, All};
 ghost use Rattle.wb_base.specs.WorkResult.{IfFault};
 ghost use Rattle.wb_base.specs.declared.tokens.Tok.TheVariants as tok;
 ghost use Rattle.web_names.specs.Identifiers.{folded, id_of};
 ghost use Rattle.web_scan.specs.Numeric.{Term, constant, with_constant, word_value};
 ghost use Rattle.web_pool.specs.Strings.{numbered};
-ghost use Rattle.web_scan.specs.inner.Under.{pieces_in, with_piece_under};
+ghost use Rattle.web_scan.specs.Pieces.{IsPieceWithin};
+ghost use Rattle.web_scan.specs.inner.Under.{pieces_in, with_piece_under, AreWithin};
 
 use crate::limits::{SECTION_LIMIT, TOKEN_LIMIT};
 use crate::pieces::{Piece, Span};
@@ -13,8 +15,7 @@ use crate::refusals::{refused_name, refused_string};
 use std::alloc::Global;
 use std::marker::Model;
 use wb_base::faults::{
-    BAD_NUMERIC_DEFINITION, LIMIT_NAMES, LIMIT_SECTION_NAMES, LIMIT_SECTIONS, LIMIT_STRINGS,
-    LIMIT_TOKENS,
+    BAD_NUMERIC_DEFINITION, LIMIT_NAMES, LIMIT_SECTION_NAMES, LIMIT_SECTIONS, LIMIT_TOKENS,
 };
 use wb_base::{Fault, Options, OutOfMemory, Place, Text, Tok, WorkErr};
 use web_lex::SectionName;
@@ -307,7 +308,9 @@ impl Parts {
 
 // Adds a text under the name with this place.
 fn push_under(named: &mut Vec<Vec<Piece>>, name: usize, piece: Piece) -> Result<(), OutOfMemory>
-    ensures { OnOk result (pieces_in named.new.items ≡ with_piece_under name piece (pieces_in named.old.items)) }
+    ensures ok { OnOk result (pieces_in named.new.items ≡ with_piece_under name piece (pieces_in named.old.items)) }
+    ensures within { (size : ℕ) → IsPieceWithin size piece → AreWithin size named.old.items
+        → AreWithin size named.new.items }
 {
     let alloc = *named.allocator();
     'padded: while named.len() <= name {
@@ -323,14 +326,16 @@ impl Parts {
 
     // The texts of the unnamed section.
     pub(crate) fn unnamed(&self) -> &[Piece]
-        ensures { pascal_texts_at self.now.tokens result.now ≡ self.now.unnamed }
+        ensures texts { pascal_texts_at self.now.tokens result.now ≡ self.now.unnamed }
+        ensures within { All (IsPieceWithin (length self.now.tokens)) result.now }
     {
         &self.unnamed
     }
 
     // The texts under the name with this place.
     pub(crate) fn pieces(&self, section: u32) -> &[Piece]
-        ensures { pascal_texts_at self.now.tokens result.now ≡ texts_under section self.now.named }
+        ensures texts { pascal_texts_at self.now.tokens result.now ≡ texts_under section self.now.named }
+        ensures within { All (IsPieceWithin (length self.now.tokens)) result.now }
     {
         match self.named.get(section as usize) {
             Some(pieces) => pieces,

@@ -1,6 +1,6 @@
 //! A scanned web.
-ghost use Rattle.std.specs.Prelude.{◌≡◌, ◌+◌, ◌<◌, ◌≤◌, pos, length, map, take, drop, slice_get, Some, ℕ};
-ghost use Rattle.web_scan.specs.Pieces.{pascal_texts_at, HasText, text_of_macro};
+ghost use Rattle.std.specs.Prelude.{◌≡◌, ◌+◌, ◌<◌, ◌≤◌, length, take, drop, slice_get, Some, All};
+ghost use Rattle.web_scan.specs.Pieces.{pascal_texts_at, IsPieceWithin, HasText, text_of_macro};
 ghost use Rattle.web_scan.specs.Scanned.{texts_under};
 ghost use Rattle.web_scan.specs.Lawful.{IsLawful};
 
@@ -41,7 +41,9 @@ impl Web {
 
     /// The Pascal texts of the unnamed section, in the order of the web. None where the web has no `@p`.
     pub fn unnamed(&self) -> &[Piece]
-        ensures { pascal_texts_at self.now.tokens result.now ≡ self.now.unnamed }
+        ensures texts { pascal_texts_at self.now.tokens result.now ≡ self.now.unnamed }
+        ensures within { All (IsPieceWithin (length self.now.tokens)) result.now }
+        ensures lawful { IsLawful self.now }
     {
         self.parts.unnamed()
     }
@@ -49,7 +51,8 @@ impl Web {
     /// The Pascal texts under the name of a section, in the order of the web; the name is one of the web.
     pub fn pieces(&self, section: u32) -> &[Piece]
         requires { section < length self.now.sections }
-        ensures { pascal_texts_at self.now.tokens result.now ≡ texts_under section self.now.named }
+        ensures texts { pascal_texts_at self.now.tokens result.now ≡ texts_under section self.now.named }
+        ensures within { All (IsPieceWithin (length self.now.tokens)) result.now }
     {
         self.parts.pieces(section)
     }

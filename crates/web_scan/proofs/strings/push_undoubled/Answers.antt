@@ -1,4 +1,4 @@
-use Rattle.std.proofs.Common.{◌≡◌, ◌∙◌, sym, inl, inr, arith}
+use Rattle.std.proofs.Common.{◌∙◌, sym, inl, inr}
 use Rattle.web_scan.proofs.StringsLemmas.{undoubled-pushed}
 use Rattle.web_scan.proofs.strings.push_undoubled.Goals as goal
 use Rattle.web_scan.proofs.strings.push_undoubled.Goals.{then-is_doubled_at, else-is_doubled_at}

@@ -1,4 +1,4 @@
-use Rattle.std.proofs.Common.{◌≡◌, ◌-◌, ◌≤◌, ◌++◌, length, drop}
+use Rattle.std.proofs.Common.{◌≡◌, ◌-◌, ◌++◌, length, drop}
 use Rattle.web_scan.specs.Texts.{undoubled}
 use Rattle.web_scan.proofs.strings.push_undoubled.Given as goal
 

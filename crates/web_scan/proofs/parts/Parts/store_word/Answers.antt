@@ -1,4 +1,4 @@
-use Rattle.std.proofs.Common.{◌≡◌, ◌∙◌}
+use Rattle.std.proofs.Common.{◌∙◌}
 use Rattle.web_scan.proofs.NamesLemmas.{among_used}
 use Rattle.web_scan.proofs.parts.Parts.store_word.Goals as goal
 
