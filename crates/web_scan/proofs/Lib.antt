@@ -3,6 +3,7 @@ pub mod NumericLemmas
 mod PartsLemmas
 pub mod ReadingLemmas
 pub mod ResultLemmas
+pub mod RightSideLemmas
 pub mod ScannerLemmas
 pub mod SectionsLemmas
 pub mod StepsLemmas

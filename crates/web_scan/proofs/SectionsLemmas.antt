@@ -1,5 +1,5 @@
 -- The heads and texts of sections, a token at a time.
-use Rattle.std.proofs.Common.{◌≡◌, ◌≢◌, ℕ, zero, suc, ◌+◌, ◌<◌, ◌≤◌, Bool, true, false, List, [], ◌∷◌, length, Option, Some, None}
+use Rattle.std.proofs.Common.{◌≡◌, ◌≢◌, ℕ, zero, suc, ◌+◌, ◌<◌, ◌≤◌, Bool, true, false, List, [], ◌∷◌, length, drop, Option, Some, None}
 use Rattle.std.proofs.Common.{Result, Ok, Err, refl, sym, ap, ◌∙◌, arith}
 use Rattle.std.specs.Prelude.{if◌then◌else◌}
 use Rattle.wb_base.specs.declared.faults.Fault.{Fault}
@@ -9,12 +9,15 @@ use Rattle.wb_base.specs.FaultAt.{fault_at}
 use Rattle.wb_base.specs.Steps.{◌>>=◌}
 use Rattle.web_lex.specs.declared.codes.Code.{Code}
 use Rattle.web_lex.specs.declared.codes.Code.TheVariants as code
-use Rattle.web_lex.specs.Token.{Token, end_of_input, control, sign, letter, digit, word, based, joined, quoted, pool, verbatim}
+use Rattle.web_lex.specs.Reading.{Reading}
+use Rattle.web_lex.specs.Token.{Token, end_of_input, control}
 use Rattle.web_names.specs.declared.classes.Class.{Class}
 use Rattle.web_names.specs.declared.classes.Class.TheVariants as class
 use Rattle.web_scan.specs.Definitions.{is_sign}
 use Rattle.web_scan.specs.Scanned.{Scanned, Scanning, place_of_last, token_read, most_tokens}
 use Rattle.web_scan.specs.Sections.{is_equals, head_from, head_read, section_used, section_text, section_text_from}
+use Rattle.web_scan.specs.Sections.{with_pascal_text, pascal_text, name_read, named_text}
+use Rattle.web_scan.proofs.ScannerLemmas.{scanning_with}
 use Rattle.web_scan.specs.Texts.{TextRead, ended_text, text_token, stored_since, ending_code}
 use Rattle.web_scan.specs.inner.Ended.{section_ended}
 use Rattle.web_scan.proofs.StepsLemmas.{StillReads, scanning_stops, scanning_more, same_rest}
@@ -195,3 +198,52 @@ section_text-ends first first' start now read token c still same is ends other o
     (λ left. section_text-step first now read token (Some c) left is ends
     ∙ not_name first token c read (section_text left first) other
     ∙ ap (λ first. section_ended first c read) (sym same) ∙ ended)
+
+-- the Pascal text of a section
+pub pascal_text-ok :
+    (name : Option ℕ) (now after : Scanning) (reading : Reading) (parts web : Scanned) (first : ℕ) (c : Code)
+    → first ≡ length now.web.tokens
+    → section_text (most_tokens now) first now ≡ Ok (stored_since first after.web, c, after)
+    → scanning_with reading parts ≡ after → web ≡ with_pascal_text name (drop first parts.tokens) parts
+    → pascal_text name now ≡ Ok (c, scanning_with reading web)
+unfolding pascal_text
+pascal_text-ok name now after reading parts web first c same is view after_text =
+    let step : List Tok × Code × Scanning → Result (Code × Scanning) Fault =
+    λ read. Ok (read.1, record read.2 { web = with_pascal_text name read.0 read.2.web }) in
+    ap (λ first. section_text (most_tokens now) first now >>= step) (sym same)
+    ∙ ap (λ (r : TextRead). r >>= step) is
+    ∙ ap (λ (after : Scanning). step (stored_since first after.web, c, after)) (sym view)
+    ∙ ap (λ (web : Scanned). Ok (c, scanning_with reading web)) (sym after_text)
+
+pub pascal_text-fault :
+    (name : Option ℕ) (now : Scanning) (first : ℕ) (fault : Fault) → first ≡ length now.web.tokens
+    → section_text (most_tokens now) first now ≡ Err fault → pascal_text name now ≡ Err fault
+unfolding pascal_text
+pascal_text-fault name now first fault same is =
+    let step : List Tok × Code × Scanning → Result (Code × Scanning) Fault =
+    λ read. Ok (read.1, record read.2 { web = with_pascal_text name read.0 read.2.web }) in
+    ap (λ first. section_text (most_tokens now) first now >>= step) (sym same) ∙ ap (λ (r : TextRead). r >>= step) is
+
+-- a Pascal text under a name
+named_by : ℕ × Scanning → Result (Code × Scanning) Fault
+named_by named = head_read (most_tokens named.1) named.1 >>= pascal_text (Some named.0)
+
+pub named_text-is :
+    (now named begun : Scanning) (name : ℕ) → name_read now ≡ Ok (name, named)
+    → head_read (most_tokens named) named ≡ Ok begun → named_text now ≡ pascal_text (Some name) begun
+unfolding named_text named_by
+named_text-is now named begun name is begins =
+    ap (λ (r : Result (ℕ × Scanning) Fault). r >>= named_by) is
+    ∙ ap (λ (r : Result Scanning Fault). r >>= pascal_text (Some name)) begins
+
+pub named_text-unnamed : (now : Scanning) (fault : Fault) → name_read now ≡ Err fault → named_text now ≡ Err fault
+unfolding named_text named_by
+named_text-unnamed now fault is = ap (λ (r : Result (ℕ × Scanning) Fault). r >>= named_by) is
+
+pub named_text-headless :
+    (now named : Scanning) (name : ℕ) (fault : Fault) → name_read now ≡ Ok (name, named)
+    → head_read (most_tokens named) named ≡ Err fault → named_text now ≡ Err fault
+unfolding named_text named_by
+named_text-headless now named name fault is refuses =
+    ap (λ (r : Result (ℕ × Scanning) Fault). r >>= named_by) is
+    ∙ ap (λ (r : Result Scanning Fault). r >>= pascal_text (Some name)) refuses

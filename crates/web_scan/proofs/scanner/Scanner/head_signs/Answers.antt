@@ -1,4 +1,4 @@
-use Rattle.std.proofs.Common.{◌≡◌, ◌∙◌, ap, sym, arith}
+use Rattle.std.proofs.Common.{◌≡◌, ◌≤◌, ◌∙◌, length, ap, sym, arith}
 use Rattle.web_lex.specs.declared.tokens.Lexed.{Lexed}
 use Rattle.web_lex.specs.Token.{token_of}
 use Rattle.wb_base.specs.FaultAt.{fault_at}
@@ -19,7 +19,16 @@ returns-then-is_equals-clause-ok c =
     c.loop-token.invariant.still c.in_ok-token.ensures.ok (sym c.is_equals.ensures ∙ c.if-is_equals.true)
 
 pub returns-then-not-is_sign-clause-fault : goal.returns-then-not-is_sign-clause-fault
-returns-then-not-is_sign-clause-fault c = ?
+returns-then-not-is_sign-clause-fault c =
+    rw c.into.ensures
+    (head_read-refuses c.args.self.now c.loop-token.self c.token.new.self (token_of c.in_ok-token.token) c.at.result
+    c.loop-token.invariant.still c.in_ok-token.ensures.ok (sym c.is_equals.ensures ∙ c.if-is_equals.false)
+    (sym c.if-not-is_sign.ensures) (c.at.ensures ∙ ap (fault_at NO_EQUALS_SIGN) c.place.ensures))
 
 pub loop-token-preserved : goal.loop-token-preserved
-loop-token-preserved c = ?
+loop-token-preserved c = record {
+  still = head_read-more c.args.self.now c.loop-token.self c.token.new.self (token_of c.in_ok-token.token)
+      c.loop-token.invariant.still c.in_ok-token.ensures.ok c.in_ok-token.ensures.shorter
+      (sym c.is_equals.ensures ∙ c.if-is_equals.false) (sym c.if-not-is_sign.ensures);
+  not_longer = omega arith;
+}
