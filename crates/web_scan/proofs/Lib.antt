@@ -1,3 +1,5 @@
+pub mod CodesLemmas
+pub mod DefinitionLemmas
 mod NamesLemmas
 pub mod NumericLemmas
 mod PartsLemmas

@@ -1,6 +1,6 @@
 -- The heads and texts of sections, a token at a time.
 use Rattle.std.proofs.Common.{◌≡◌, ◌≢◌, ℕ, zero, suc, ◌+◌, ◌<◌, ◌≤◌, Bool, true, false, List, [], ◌∷◌, length, drop, Option, Some, None}
-use Rattle.std.proofs.Common.{Result, Ok, Err, refl, sym, ap, ◌∙◌, arith}
+use Rattle.std.proofs.Common.{Result, Ok, Err, refl, sym, ap, ◌∙◌, subst, arith}
 use Rattle.std.specs.Prelude.{if◌then◌else◌}
 use Rattle.wb_base.specs.declared.faults.Fault.{Fault}
 use Rattle.wb_base.specs.declared.faults.TheConstants.{NO_EQUALS_SIGN}
@@ -18,7 +18,9 @@ use Rattle.web_scan.specs.Scanned.{Scanned, Scanning, place_of_last, token_read,
 use Rattle.web_scan.specs.Sections.{is_equals, head_from, head_read, section_used, section_text, section_text_from}
 use Rattle.web_scan.specs.Sections.{with_pascal_text, pascal_text, name_read, named_text}
 use Rattle.web_scan.proofs.ScannerLemmas.{scanning_with}
-use Rattle.web_scan.specs.Texts.{TextRead, ended_text, text_token, stored_since, ending_code}
+use Rattle.web_scan.specs.Texts.{TextRead, text_token, still_open, stored_since, ending_code}
+use Rattle.web_scan.specs.declared.texts.OpenText.{OpenText}
+use Rattle.web_scan.specs.inner.Open.{IsOpen}
 use Rattle.web_scan.specs.inner.Ended.{section_ended}
 use Rattle.web_scan.proofs.StepsLemmas.{StillReads, scanning_stops, scanning_more, same_rest}
 use Rattle.web_scan.proofs.TextsLemmas.{not_end}
@@ -179,6 +181,18 @@ section_text-unused first start now read token fault still is name refuses =
     scanning_stops (λ most. section_text most first) start now (Err fault) still
     (λ left. section_text-step first now read token (Some code.Name) left is name
     ∙ ap (λ (r : Result Scanning Fault). r >>= section_text left first) refuses)
+
+-- a section's name opens and closes no parenthesis
+pub open_after_name :
+    (text : OpenText) (before now after : Scanned) → IsOpen text before → now ≡ before
+    → length now.tokens ≤ length after.tokens
+    → ((first : ℕ) → first ≤ length now.tokens
+    → still_open (stored_since first after) ≡ still_open (stored_since first now))
+    → IsOpen text after
+open_after_name text before now after opened same grows kept =
+    let here : IsOpen text now = subst (IsOpen text) (sym same) opened in
+    let within = here.within in
+    record { within = omega arith; depth = here.depth ∙ sym (kept text.first here.within) }
 
 -- any other code
 not_name :

@@ -6,7 +6,7 @@ use Rattle.web_scan.specs.inner.Open.{IsOpen}
 use Rattle.web_scan.proofs.ResultLemmas.{if_ok, if_fault, handed_on}
 use Rattle.web_scan.proofs.StepsLemmas.{same_rest}
 use Rattle.web_scan.proofs.SectionsLemmas.{section_text-fault, section_text-more, section_text-refuses, section_text-used}
-use Rattle.web_scan.proofs.SectionsLemmas.{section_text-unused, section_text-ends}
+use Rattle.web_scan.proofs.SectionsLemmas.{section_text-unused, section_text-ends, open_after_name}
 use Rattle.web_scan.proofs.scanner.Scanner.section_text.Goals as goal
 
 pub returns-in_err-token-clause-fault : goal.returns-in_err-token-clause-fault
@@ -48,12 +48,12 @@ loop-token-preserved c =
     let inv = c.loop-token.invariant in
     let used = c.in_ok-section_used-in-Name.ensures in
     let name = sym c.in-Some.ensures ∙ ap Some c.in-Name.is in
-    let within : c.loop-token.text.first ≤ length c.token.new.self.web.tokens = ? in
     record {
       still = section_text-used text.first c.args.self.now c.loop-token.self c.token.new.self c.section_used.new.self
           (token_of c.in_ok-token.token) inv.still c.in_ok-token.ensures.ok c.in_ok-token.ensures.shorter name
           c.in_ok-section_used-in-Name.ensures.ok c.in_ok-section_used-in-Name.ensures.not_longer;
-      opened = ?;
+      opened = open_after_name c.loop-token.text c.loop-token.self.web c.token.new.self.web c.section_used.new.self.web
+          inv.opened c.token.ensures.web used.grows used.«open»;
       class = inv.class;
       first = inv.first;
       not_longer = omega (arith, c.in_ok-section_used-in-Name.ensures.not_longer);
