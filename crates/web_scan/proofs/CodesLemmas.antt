@@ -177,6 +177,19 @@ parts-passed start c now next found still passed is shorter =
     codes_more parts_read start (c, now) (found, next) still passed.not_end shorter
     (λ left. section_parts-passed left c now passed ∙ ap (parts_from left) is)
 
+-- where the end was found, the section ends with it
+same_end : (a b : Code × Scanning) (r : Result (Code × Scanning) Fault) → r ≡ Ok a → r ≡ Ok b → a ≡ b
+same_end a b r is_a is_b = cc
+
+pub end_kept :
+    (c ended : Code) (next after : Scanning)
+    → ((most : ℕ) → length next.reading.rest < most → section_parts most c next ≡ Ok (ended, after))
+    → c ≡ code.End → ended ≡ code.End
+end_kept c ended next after is end =
+    let most = most_tokens next in
+    let at_end = ap (λ c. section_parts most c next) end ∙ section_parts-end most next in
+    ap (λ p. p.0) (same_end (ended, after) (code.End, next) (section_parts most c next) (is most (omega arith)) at_end)
+
 -- a section
 pub section-is :
     (now next : Scanning) (reading : Reading) (parts web : Scanned) (place : Place) (found : Code)

@@ -1,5 +1,5 @@
 -- Definitions, a step at a time.
-use Rattle.std.proofs.Common.{◌≡◌, ◌≢◌, ℕ, List, Result, Ok, Err, refl, sym, ap, ◌∙◌}
+use Rattle.std.proofs.Common.{◌≡◌, ◌≢◌, ℕ, List, Bor, Result, Ok, Err, refl, sym, ap, ◌∙◌}
 
 use Rattle.wb_base.specs.declared.faults.Fault.{Fault}
 use Rattle.wb_base.specs.declared.faults.TheConstants.{BAD_DEFINITION}
@@ -8,7 +8,9 @@ use Rattle.wb_base.specs.FaultAt.{fault_at}
 use Rattle.wb_base.specs.Steps.{◌>>=◌}
 use Rattle.web_lex.specs.declared.codes.Code.{Code}
 use Rattle.web_lex.specs.Reading.{Reading}
-use Rattle.web_lex.specs.Token.{Token, word}
+use Rattle.web_lex.specs.declared.tokens.Lexed.{Lexed}
+use Rattle.web_lex.specs.declared.tokens.Lexed.TheVariants as lexed
+use Rattle.web_lex.specs.Token.{Token, word, token_of}
 use Rattle.web_names.specs.declared.classes.Class.{Class}
 use Rattle.web_scan.specs.Definitions.{defined_word, class_read, macro_defined, name_defined, right_side_read, definition}
 use Rattle.web_scan.specs.Scanned.{Scanned, Scanning, place_of_last, token_read}
@@ -26,6 +28,13 @@ signs_from named bytes = class_read named >>= name_from (place_of_last named) by
 
 abbrev word_from : Token × Scanning → Result (Code × Scanning) Fault
 word_from read = defined_word (place_of_last read.1) read.0 >>= signs_from read.1
+
+-- a token that is no word
+pub not_word :
+    (token : Lexed) (place : Place) → ((bytes : Bor (List ℕ)) → token ≡ lexed.Word bytes → ⊥)
+    → defined_word place (token_of token) ≡ Err (fault_at BAD_DEFINITION place)
+not_word (lexed.Word bytes) place other = absurd (other bytes refl)
+not_word token place other = refl
 
 pub definition-unread : (now : Scanning) (fault : Fault) → token_read now ≡ Err fault → definition now ≡ Err fault
 unfolding definition

@@ -18,6 +18,11 @@ pub if_ok : {T E : Type 0} {P Q : T → Type 0} (r : Result T E) → ((value : T
 if_ok (Ok value) f p = f value p
 if_ok (Err error) f p = tt
 
+-- another fact of the value, by two
+pub if_ok_both : {T E R : Type 0} {P Q : T → Type 0} (r : Result T E) → ((value : T) → P value → R → Q value) → IfOk r P → OnOk r R → IfOk r Q
+if_ok_both (Ok value) f p holds = f value p holds
+if_ok_both (Err error) f p holds = tt
+
 -- another fact of the fault
 pub if_fault : {T : Type 0} {P Q : Fault → Type 0} (r : Result T WorkErr) → ((fault : Fault) → P fault → Q fault) → IfFault r P → IfFault r Q
 if_fault (Ok value) f p = tt
