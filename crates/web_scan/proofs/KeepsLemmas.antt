@@ -1,5 +1,6 @@
 -- What is lawful stays so where tokens are read: these add only ordinary names, names of sections, strings and tokens.
-use Rattle.std.proofs.Common.{◌≡◌, ℕ, ℤ, zero, suc, ◌≤◌, List, [], ◌∷◌, ◌++◌, length, All, IsSome, IsSomeAnd, slice_get, refl, sym, ◌∙◌, arith, append-nil}
+use Rattle.std.proofs.Common.{◌≡◌, ℕ, ℤ, zero, suc, ◌≤◌, List, [], ◌∷◌, ◌++◌, length, All, IsSome, IsSomeAnd}
+use Rattle.std.proofs.Common.{slice_get, refl, sym, ◌∙◌, arith, append-nil}
 use Rattle.std.proofs.lemmas.List.Elements.{All-append, All-same, All-weaker}
 use Rattle.wb_base.specs.declared.tokens.Tok.{Tok}
 use Rattle.wb_base.specs.declared.tokens.Tok.TheVariants as tok
@@ -16,7 +17,8 @@ pub record Grows (before after : Scanned) : Type 0 where
   pub sections : length before.sections ≤ length after.sections
   pub quoted : length before.quoted ≤ length after.quoted
 
-pub IsTokenOf-grows : (before after : Scanned) → Grows before after → (token : Tok) → IsTokenOf before token → IsTokenOf after token
+pub IsTokenOf-grows : (before after : Scanned) → Grows before after → (token : Tok) → IsTokenOf before token
+    → IsTokenOf after token
 IsTokenOf-grows before after grows (tok.Name id) is = omega (arith, grows.names)
 IsTokenOf-grows before after grows (tok.Quoted index) is = omega (arith, grows.quoted)
 IsTokenOf-grows before after grows (tok.Verbatim index) is = omega (arith, grows.quoted)
@@ -32,32 +34,39 @@ IsTokenOf-grows before after grows tok.Line is = tt
 IsTokenOf-grows before after grows tok.MetaOpen is = tt
 IsTokenOf-grows before after grows tok.MetaClose is = tt
 
-pub tokens-grow : (before after : Scanned) → Grows before after → (text : List Tok) → All (IsTokenOf before) text → All (IsTokenOf after) text
+pub tokens-grow : (before after : Scanned) → Grows before after → (text : List Tok) → All (IsTokenOf before) text
+    → All (IsTokenOf after) text
 tokens-grow before after grows text all =
     All-weaker (IsTokenOf before) (IsTokenOf after) (IsTokenOf-grows before after grows) text all
 
-pub IsTextOf-grows : (before after : Scanned) → Grows before after → (text : List Tok) → IsTextOf before text → IsTextOf after text
+pub IsTextOf-grows : (before after : Scanned) → Grows before after → (text : List Tok) → IsTextOf before text
+    → IsTextOf after text
 IsTextOf-grows before after grows text is =
     record { tokens = tokens-grow before after grows text is.tokens; balanced = is.balanced }
 
-pub IsPascalTextOf-grows : (before after : Scanned) → Grows before after → (piece : PascalText) → IsPascalTextOf before piece → IsPascalTextOf after piece
+pub IsPascalTextOf-grows : (before after : Scanned) → Grows before after → (piece : PascalText)
+    → IsPascalTextOf before piece → IsPascalTextOf after piece
 IsPascalTextOf-grows before after grows piece is =
     record { text = IsTextOf-grows before after grows piece.text is.text; no_parameter = is.no_parameter }
 
 -- the texts of a web are still texts of it
-pub texts-grow : (before after : Scanned) → Grows before after → (texts : List (List Tok)) → All (IsTextOf before) texts → All (IsTextOf after) texts
+pub texts-grow : (before after : Scanned) → Grows before after → (texts : List (List Tok))
+    → All (IsTextOf before) texts → All (IsTextOf after) texts
 texts-grow before after grows texts all =
     All-weaker (IsTextOf before) (IsTextOf after) (IsTextOf-grows before after grows) texts all
 
-pub pieces-grow : (before after : Scanned) → Grows before after → (pieces : List PascalText) → All (IsPascalTextOf before) pieces → All (IsPascalTextOf after) pieces
+pub pieces-grow : (before after : Scanned) → Grows before after → (pieces : List PascalText)
+    → All (IsPascalTextOf before) pieces → All (IsPascalTextOf after) pieces
 pieces-grow before after grows pieces all =
     All-weaker (IsPascalTextOf before) (IsPascalTextOf after) (IsPascalTextOf-grows before after grows) pieces all
 
-pub named-grow : (before after : Scanned) → Grows before after → (named : List (List PascalText)) → All (All (IsPascalTextOf before)) named → All (All (IsPascalTextOf after)) named
+pub named-grow : (before after : Scanned) → Grows before after → (named : List (List PascalText))
+    → All (All (IsPascalTextOf before)) named → All (All (IsPascalTextOf after)) named
 named-grow before after grows named all =
     All-weaker (All (IsPascalTextOf before)) (All (IsPascalTextOf after)) (pieces-grow before after grows) named all
 
-still : {X : Type 0} (xs more : List X) (place : ℕ) → IsSome (slice_get xs place) → IsSome (slice_get (xs ++ more) place)
+still : {X : Type 0} (xs more : List X) (place : ℕ) → IsSome (slice_get xs place)
+    → IsSome (slice_get (xs ++ more) place)
 still [] more place some = absurd cc
 still (x ∷ xs) more zero some = refl
 still (x ∷ xs) more (suc place) some = still xs more place some
@@ -77,7 +86,8 @@ IsValueOf-texts before after more is class.Ordinary value holds = tt
 IsValueOf-texts before after more is class.Numeric value holds = holds
 IsValueOf-texts before after more is class.Simple value holds =
     (holds.0, holds.1, rw is (still_and before.texts more holds.0 HasNoParameter holds.2))
-IsValueOf-texts before after more is class.Parametric value holds = (holds.0, holds.1, rw is (still before.texts more holds.0 holds.2))
+IsValueOf-texts before after more is class.Parametric value holds =
+    (holds.0, holds.1, rw is (still before.texts more holds.0 holds.2))
 
 -- what reading tokens of a text leaves
 pub record Keeps (before after : Scanned) : Type 0 where
@@ -122,7 +132,8 @@ ordinary-values web name is = rw is tt
 -- names of which more are ordinary
 pub values-more :
     (web : Scanned) (before after : List Name) → AddsOrdinary before after
-    → All (λ name. IsValueOf web name.class name.value) before → All (λ name. IsValueOf web name.class name.value) after
+    → All (λ name. IsValueOf web name.class name.value) before
+    → All (λ name. IsValueOf web name.class name.value) after
 values-more web before after adds all =
     let P : Name → Type 0 = λ name. IsValueOf web name.class name.value in
     let more = All-weaker (λ name. name.class ≡ class.Ordinary) P (ordinary-values web) adds.more adds.ordinary in
@@ -132,7 +143,8 @@ values-more web before after adds all =
 pub IsLawful-keeps : (before after : Scanned) → Keeps before after → IsLawful before → IsLawful after
 IsLawful-keeps before after keeps lawful =
     let grows = Keeps-grows before after keeps in
-    let values = All-weaker (λ name. IsValueOf before name.class name.value) (λ name. IsValueOf after name.class name.value)
+    let values = All-weaker (λ name. IsValueOf before name.class name.value)
+    (λ name. IsValueOf after name.class name.value)
     (λ name. IsValueOf-texts before after [] (keeps.texts ∙ sym (append-nil before.texts)) name.class name.value)
     before.names.names lawful.names in
     record {

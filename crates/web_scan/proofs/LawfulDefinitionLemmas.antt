@@ -1,5 +1,7 @@
 -- A definition leaves a lawful web lawful.
-use Rattle.std.proofs.Common.{◌≡◌, ℕ, ℤ, pos, nat_abs, zero, suc, ◌<◌, ◌==◌, Bool, false, nat_lt, if◌then◌else◌, List, [], ◌∷◌, ◌++◌, length, All, Option, Some, None, slice_get, Result, Ok, Err, IfOk, refl, sym, ap, ◌∙◌, subst, arith, append-nil}
+use Rattle.std.proofs.Common.{◌≡◌, ℕ, ℤ, pos, nat_abs, zero, suc, ◌<◌, ◌==◌, Bool, false, nat_lt, if◌then◌else◌, List}
+use Rattle.std.proofs.Common.{[], ◌∷◌, ◌++◌, length, All, Option, Some, None, slice_get, Result, Ok, Err, IfOk, refl}
+use Rattle.std.proofs.Common.{sym, ap, ◌∙◌, subst, arith, append-nil}
 use Rattle.std.specs.Prelude.{⊤, codes}
 use Rattle.std.proofs.lemmas.Bool.Decides.{nat_tests}
 use Rattle.std.proofs.lemmas.List.Elements.{All-push, All-same, All-weaker}
@@ -22,15 +24,18 @@ use Rattle.web_pool.specs.Strings.{numbered}
 use Rattle.web_scan.specs.Limits.{unless_refused, string_number}
 use Rattle.web_scan.specs.Scanned.{Scanned, Scanning, place_of_last, token_read, most_tokens}
 use Rattle.web_scan.specs.Texts.{string_value, ending_code, macro_text}
-use Rattle.web_scan.specs.Numeric.{Term, constant, TermsRead, with_sign, with_digit, with_constant, with_web, with_token, word_value, right_side_from, right_side, sum_of, value_of, value_limit}
-use Rattle.web_scan.specs.Definitions.{is_sign, is_same, expected, defined_word, parameter_read, class_from, class_read, name_defined, value_given, right_side_read, definition}
+use Rattle.web_scan.specs.Numeric.{Term, constant, TermsRead, with_sign, with_digit, with_constant, with_web}
+use Rattle.web_scan.specs.Numeric.{with_token, word_value, right_side_from, right_side, sum_of, value_of, value_limit}
+use Rattle.web_scan.specs.Definitions.{is_sign, is_same, expected, defined_word, parameter_read, class_from}
+use Rattle.web_scan.specs.Definitions.{class_read, name_defined, value_given, right_side_read, definition}
 use Rattle.web_scan.specs.Lawful.{IsTextOf, IsPascalTextOf, HasNoParameter, IsValueOf, IsLawful}
 use Rattle.web_scan.proofs.StepLemmas.{IfOk-step, IfOk-at, any_ok, choice}
 use Rattle.web_scan.proofs.ReadTokenLemmas.{IsReadable}
 use Rattle.web_scan.proofs.StringNumberLemmas.{AreFew, IsNumber, numbered-small, undoubled-visible}
 use Rattle.web_scan.proofs.NamesLemmas.{length-with_value}
 use Rattle.web_scan.proofs.PlacesLemmas.{IsDefined, defined-defined}
-use Rattle.web_scan.proofs.KeepsLemmas.{Grows, Keeps-none, Keeps-grows, IsTextOf-grows, texts-grow, pieces-grow, named-grow, IsValueOf-texts, values-more}
+use Rattle.web_scan.proofs.KeepsLemmas.{Grows, Keeps-none, Keeps-grows, IsTextOf-grows, texts-grow, pieces-grow}
+use Rattle.web_scan.proofs.KeepsLemmas.{named-grow, IsValueOf-texts, values-more}
 use Rattle.web_scan.proofs.OpenTextLemmas.{IsSoFar-none}
 use Rattle.web_scan.proofs.LawfulTextLemmas.{IsTokenRead, token_read-is, IsReadText, macro_text-read}
 
@@ -48,15 +53,18 @@ record AddsStrings (before after : Scanned) : Type 0 where
 no_strings : (web : Scanned) → AreFew web.strings → AddsStrings web web
 no_strings web few = record { strings = web.strings; is = refl; few = few }
 
-more_strings : (before between after : Scanned) → AddsStrings before between → AddsStrings between after → AddsStrings before after
+more_strings : (before between after : Scanned) → AddsStrings before between → AddsStrings between after
+    → AddsStrings before after
 more_strings before between after first then_ = record {
   strings = then_.strings;
-  is = then_.is ∙ ap (λ (web : Scanned). let after : Scanned = record web { strings = then_.strings } in after) first.is;
+  is = then_.is ∙ ap (λ (web : Scanned). let after : Scanned = record web { strings = then_.strings } in after)
+      first.is;
   few = then_.few;
 }
 
 -- a term beside the same web
-with_web-adds : (web : Scanned) (terms : Result (List Term) Fault) → AreFew web.strings → IfOk (with_web web terms) (λ answer. AddsStrings web answer.1)
+with_web-adds : (web : Scanned) (terms : Result (List Term) Fault) → AreFew web.strings
+    → IfOk (with_web web terms) (λ answer. AddsStrings web answer.1)
 with_web-adds web (Ok terms) few = no_strings web few
 with_web-adds web (Err fault) few = tt
 
@@ -73,11 +81,13 @@ with_token-adds :
     (defining : ℕ) (place : Place) (token : Token) (terms : List Term) (web : Scanned) → AreFew web.strings
     → IsReadable token → IfOk (with_token defining place token terms web) (λ answer. AddsStrings web answer.1)
 with_token-adds defining place (sign byte) terms web few readable = with_web-adds web (with_sign place byte terms) few
-with_token-adds defining place (digit byte) terms web few readable = with_web-adds web (with_digit place byte terms) few
+with_token-adds defining place (digit byte) terms web few readable =
+    with_web-adds web (with_digit place byte terms) few
 with_token-adds defining place (based value) terms web few readable = no_strings web few
 with_token-adds defining place (pool bytes) terms web few readable =
     let answer = numbered (string_value bytes) web.strings in
-    IfOk-step (λ answer. AddsStrings web answer.1) (λ answer. AddsStrings web answer.1) (string_number place web answer)
+    IfOk-step (λ answer. AddsStrings web answer.1) (λ answer. AddsStrings web answer.1)
+    (string_number place web answer)
     (λ numbered. Ok (constant (pos numbered.0) ∷ terms, numbered.1))
     (string_number-adds place web answer
     (numbered-small (string_value bytes) web.strings (undoubled-visible (codes "@\"") bytes readable) few))
@@ -121,11 +131,13 @@ right_side-adds (suc most) defining before terms scanning adds =
     (token_read-is scanning)
     (λ read token.
     let adds : AddsStrings before read.1.web = subst (AddsStrings before) (sym token.same) adds in
-    right_side_from-adds defining before terms read.0 read.1 (right_side most defining) (ending_code read.0) token.readable
+    right_side_from-adds defining before terms read.0 read.1 (right_side most defining)
+    (ending_code read.0) token.readable
     adds (few_still before read.1.web adds) (right_side-adds most defining before))
 
 -- the value of a numeric macro is small
-value_of-small : (place : Place) (terms : List Term) → IfOk (value_of place terms) (λ value. nat_abs value < value_limit)
+value_of-small : (place : Place) (terms : List Term)
+    → IfOk (value_of place terms) (λ value. nat_abs value < value_limit)
 value_of-small place terms =
     choice (λ (answer : Result ℤ Fault). IfOk answer (λ value. nat_abs value < value_limit))
     (nat_lt (nat_abs (sum_of terms)) value_limit) (Ok (sum_of terms)) (Err (fault_at VALUE_TOO_BIG place))
@@ -142,9 +154,11 @@ values-defined :
     → after.texts ≡ before.texts ++ more → IsValueOf after kind value
     → IsDefined (IsValueOf after) value before.names.names defined_as
 values-defined bytes kind value before defined_as after more is lawful texts here =
-    let old = All-weaker (λ name. IsValueOf before name.class name.value) (λ name. IsValueOf after name.class name.value)
+    let old = All-weaker (λ name. IsValueOf before name.class name.value)
+    (λ name. IsValueOf after name.class name.value)
     (λ name. IsValueOf-texts before after more texts name.class name.value) before.names.names lawful.names in
-    IfOk-at (IsDefined (IsValueOf after) value before.names.names) (defined bytes kind before.names.names) defined_as is
+    IfOk-at (IsDefined (IsValueOf after) value before.names.names) (defined bytes kind before.names.names)
+    defined_as is
     (defined-defined (IsValueOf after) kind value bytes before.names.names old here)
 
 -- after a numeric definition
@@ -155,9 +169,14 @@ numeric-sound :
     → IsSound (value_given defined_as.0 value (record (with_names before defined_as.1) { strings = strings }))
 numeric-sound bytes value before defined_as strings is lawful few small =
     let after = value_given defined_as.0 value (record (with_names before defined_as.1) { strings = strings }) in
-    let values = values-defined bytes class.Numeric value before defined_as after [] is lawful (sym (append-nil before.texts)) small in
+    let values = values-defined bytes class.Numeric value before defined_as after [] is lawful
+    (sym (append-nil before.texts)) small in
     let grows : Grows before after =
-    record { names = omega (arith, values.grows, length-with_value defined_as.0 value defined_as.1); sections = omega arith; quoted = omega arith } in
+    record {
+      names = omega (arith, values.grows, length-with_value defined_as.0 value defined_as.1);
+      sections = omega arith;
+      quoted = omega arith;
+    } in
     record {
       lawful = record {
         names = values.all;
@@ -189,7 +208,8 @@ text-sound bytes kind before defined_as text ended is lawful read here =
     let begun = begun_text before defined_as in
     let after = with_text ended text in
     let texts : after.texts ≡ before.texts ++ text ∷ [] = ap (λ texts. texts ++ text ∷ []) read.keeps.texts in
-    let values = values-defined bytes kind value before defined_as after (text ∷ []) is lawful texts (here after texts) in
+    let values = values-defined bytes kind value before defined_as after (text ∷ []) is lawful texts
+    (here after texts) in
     let still = Keeps-grows begun ended read.keeps in
     let grows : Grows before after =
     record {
@@ -203,7 +223,8 @@ text-sound bytes kind before defined_as text ended is lawful read here =
       lawful = record {
         names = values-more after begun.names.names ended.names.names read.keeps.names values.all;
         texts = All-same (IsTextOf after) after.texts (before.texts ++ text ∷ []) texts
-            (All-push (IsTextOf after) before.texts text (texts-grow before after grows before.texts lawful.texts) new);
+            (All-push (IsTextOf after) before.texts text (texts-grow before after grows before.texts lawful.texts)
+            new);
         unnamed = All-same (IsPascalTextOf after) ended.unnamed before.unnamed read.keeps.unnamed
             (pieces-grow before after grows before.unnamed lawful.unnamed);
         named = All-same (All (IsPascalTextOf after)) ended.named before.named read.keeps.named
@@ -218,17 +239,20 @@ new_text [] text = refl
 new_text (other ∷ texts) text = new_text texts text
 
 simple_value :
-    (texts : List (List Tok)) (text : List Tok) → HasNoParameter text → (web : Scanned) → web.texts ≡ texts ++ text ∷ []
+    (texts : List (List Tok)) (text : List Tok) → HasNoParameter text → (web : Scanned)
+    → web.texts ≡ texts ++ text ∷ []
     → IsValueOf web class.Simple (pos (length texts))
 simple_value texts text none web is =
-    let there : slice_get web.texts (length texts) ≡ Some text = ap (λ texts'. slice_get texts' (length texts)) is ∙ new_text texts text in
+    let there : slice_get web.texts (length texts) ≡ Some text = ap (λ texts'. slice_get texts' (length texts)) is
+    ∙ new_text texts text in
     (length texts, refl, rw there none)
 
 parametric_value :
     (texts : List (List Tok)) (text : List Tok) (web : Scanned) → web.texts ≡ texts ++ text ∷ []
     → IsValueOf web class.Parametric (pos (length texts))
 parametric_value texts text web is =
-    let there : slice_get web.texts (length texts) ≡ Some text = ap (λ texts'. slice_get texts' (length texts)) is ∙ new_text texts text in
+    let there : slice_get web.texts (length texts) ≡ Some text = ap (λ texts'. slice_get texts' (length texts)) is
+    ∙ new_text texts text in
     (length texts, refl, rw there refl)
 
 -- the value of a macro whose text was read
@@ -257,7 +281,8 @@ numeric_side-sound :
 numeric_side-sound at_name bytes scanning defined_as is sound =
     let begun = begun_side scanning defined_as in
     let given : ℤ → Scanned → Scanned = λ value web. value_given defined_as.0 value web in
-    IfOk-step (λ read. AddsStrings begun.web read.2.web) SoundAfter (right_side (most_tokens begun) defined_as.0 [] begun)
+    IfOk-step (λ read. AddsStrings begun.web read.2.web) SoundAfter
+    (right_side (most_tokens begun) defined_as.0 [] begun)
     (λ read. value_of at_name read.0 >>= (λ value. Ok (read.1, record read.2 { web = given value read.2.web })))
     (right_side-adds (most_tokens begun) defined_as.0 begun.web [] begun (no_strings begun.web sound.few))
     (λ read adds. IfOk-step (λ value. nat_abs value < value_limit) SoundAfter (value_of at_name read.0)
@@ -306,11 +331,13 @@ right_side_read-sound at_name bytes class.Parametric scanning defined_as is soun
 abbrev SameWeb : Scanned → Scanning → Type 0
 SameWeb web after = after.web ≡ web
 
-expected-same : (code : ℕ) (is_such : Token → Bool) (scanning : Scanning) → IfOk (expected code is_such scanning) (SameWeb scanning.web)
+expected-same : (code : ℕ) (is_such : Token → Bool) (scanning : Scanning)
+    → IfOk (expected code is_such scanning) (SameWeb scanning.web)
 expected-same code is_such scanning =
     IfOk-step (IsTokenRead scanning) (SameWeb scanning.web) (token_read scanning)
     (λ read. if is_such read.0 then Ok read.1 else Err (fault_at code (place_of_last read.1))) (token_read-is scanning)
-    (λ read token. choice (λ (answer : Result Scanning Fault). IfOk answer (SameWeb scanning.web)) (is_such read.0) (Ok read.1)
+    (λ read token. choice (λ (answer : Result Scanning Fault). IfOk answer (SameWeb scanning.web)) (is_such read.0)
+    (Ok read.1)
     (Err (fault_at code (place_of_last read.1))) (λ such. token.same) (λ other. tt))
 
 abbrev ClassInWeb : Scanned → Class × Scanning → Type 0
@@ -321,7 +348,8 @@ parameter_read-same scanning =
     let expects = λ (is_such : Token → Bool) (scanning : Scanning). expected BAD_DEFINITION is_such scanning in
     let answer : Scanning → Result (Class × Scanning) Fault = λ scanning. Ok (class.Parametric, scanning) in
     IfOk-step (SameWeb scanning.web) (ClassInWeb scanning.web) (expects (is_sign 35) scanning)
-    (λ one. expects (is_sign 41) one >>= (λ two. expects is_same two >>= answer)) (expected-same BAD_DEFINITION (is_sign 35) scanning)
+    (λ one. expects (is_sign 41) one >>= (λ two. expects is_same two >>= answer))
+    (expected-same BAD_DEFINITION (is_sign 35) scanning)
     (λ one same. IfOk-step (SameWeb one.web) (ClassInWeb scanning.web) (expects (is_sign 41) one)
     (λ two. expects is_same two >>= answer) (expected-same BAD_DEFINITION (is_sign 41) one)
     (λ two again. IfOk-step (SameWeb two.web) (ClassInWeb scanning.web) (expects is_same two) answer
@@ -331,8 +359,10 @@ class_from-same : (token : Token) (scanning : Scanning) → IfOk (class_from tok
 class_from-same (sign byte) scanning =
     let P : Result (Class × Scanning) Fault → Type 0 = λ answer. IfOk answer (ClassInWeb scanning.web) in
     let bad : Result (Class × Scanning) Fault = Err (fault_at BAD_DEFINITION (place_of_last scanning)) in
-    choice P (byte == 61) (Ok (class.Numeric, scanning)) (if byte == 40 then parameter_read scanning else bad) (λ equals. refl)
-    (λ other. choice P (byte == 40) (parameter_read scanning) bad (λ opens. parameter_read-same scanning) (λ other. tt))
+    choice P (byte == 61) (Ok (class.Numeric, scanning)) (if byte == 40 then parameter_read scanning else bad)
+    (λ equals. refl)
+    (λ other. choice P (byte == 40) (parameter_read scanning) bad (λ opens. parameter_read-same scanning)
+    (λ other. tt))
 class_from-same (joined two.Same) scanning = refl
 class_from-same other scanning = tt
 
@@ -340,7 +370,8 @@ class_read-same : (scanning : Scanning) → IfOk (class_read scanning) (ClassInW
 class_read-same scanning =
     IfOk-step (IsTokenRead scanning) (ClassInWeb scanning.web) (token_read scanning) (λ read. class_from read.0 read.1)
     (token_read-is scanning)
-    (λ read token. subst (λ (web : Scanned). IfOk (class_from read.0 read.1) (ClassInWeb web)) token.same (class_from-same read.0 read.1))
+    (λ read token. subst (λ (web : Scanned). IfOk (class_from read.0 read.1) (ClassInWeb web)) token.same
+    (class_from-same read.0 read.1))
 
 -- a definition, by what the names answer
 abbrev begun_web : Scanned → ℕ × List Name → ℕ × Scanned
@@ -355,7 +386,8 @@ begun_by at_sign scanning answer =
     >>= (λ begun. Ok (begun_scanning scanning begun))
 
 begun_by-sound :
-    (at_name at_sign : Place) (bytes : List ℕ) (kind : Class) (scanning : Scanning) (answer : Result (ℕ × List Name) NameErr)
+    (at_name at_sign : Place) (bytes : List ℕ) (kind : Class) (scanning : Scanning)
+    (answer : Result (ℕ × List Name) NameErr)
     → defined bytes kind scanning.web.names.names ≡ answer → IsSound scanning.web
     → IfOk (begun_by at_sign scanning answer >>= (λ begun. right_side_read at_name begun.0 kind begun.1)) SoundAfter
 begun_by-sound at_name at_sign bytes kind scanning (Ok defined_as) is sound =
@@ -366,7 +398,8 @@ name_defined-sound :
     (at_name : Place) (bytes : List ℕ) (kind : Class) (scanning : Scanning) → IsSound scanning.web
     → IfOk (name_defined bytes kind scanning >>= (λ begun. right_side_read at_name begun.0 kind begun.1)) SoundAfter
 name_defined-sound at_name bytes kind scanning sound =
-    begun_by-sound at_name (place_of_last scanning) bytes kind scanning (defined bytes kind scanning.web.names.names) refl sound
+    begun_by-sound at_name (place_of_last scanning) bytes kind scanning (defined bytes kind scanning.web.names.names)
+    refl sound
 
 pub definition-sound : (scanning : Scanning) → IsSound scanning.web → IfOk (definition scanning) SoundAfter
 unfolding definition

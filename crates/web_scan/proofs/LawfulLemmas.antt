@@ -1,5 +1,6 @@
 -- Every web that is scanned is lawful.
-use Rattle.std.proofs.Common.{◌≡◌, ℕ, zero, suc, if◌then◌else◌, List, [], ◌∷◌, ◌++◌, ◌+◌, length, nat_lt, All, Option, Some, None, Result, Ok, Err, IfOk, refl, sym, ◌∙◌, subst, arith, append-nil}
+use Rattle.std.proofs.Common.{◌≡◌, ℕ, zero, suc, if◌then◌else◌, List, [], ◌∷◌, ◌++◌, ◌+◌, length, nat_lt, All, Option}
+use Rattle.std.proofs.Common.{Some, None, Result, Ok, Err, IfOk, refl, sym, ◌∙◌, subst, arith, append-nil}
 use Rattle.std.proofs.lemmas.List.Elements.{All-nil, All-cons, All-head, All-tail, All-push, All-weaker}
 use Rattle.wb_base.specs.declared.faults.Fault.{Fault}
 use Rattle.wb_base.specs.declared.faults.TheConstants.{NO_EQUALS_SIGN, LIMIT_SECTIONS}
@@ -15,14 +16,17 @@ use Rattle.web_lex.specs.Token.{Token}
 use Rattle.web_names.specs.declared.classes.Class.TheVariants as class
 use Rattle.web_scan.specs.declared.limits.TheConstants.{SECTION_LIMIT}
 use Rattle.web_scan.specs.Limits.{section_begun}
-use Rattle.web_scan.specs.Scanned.{PascalText, Scanned, nothing_scanned, with_text_under, Scanning, scanning_of, place_of_last, token_read, code_found, most_tokens}
+use Rattle.web_scan.specs.Scanned.{PascalText, Scanned, nothing_scanned, with_text_under, Scanning, scanning_of}
+use Rattle.web_scan.specs.Scanned.{place_of_last, token_read, code_found, most_tokens}
 use Rattle.web_scan.specs.Definitions.{is_sign, definition}
-use Rattle.web_scan.specs.Sections.{name_read, section_text, with_pascal_text, pascal_text, is_equals, head_from, head_read, named_text, section_parts, section, sections}
+use Rattle.web_scan.specs.Sections.{name_read, section_text, with_pascal_text, pascal_text, is_equals, head_from}
+use Rattle.web_scan.specs.Sections.{head_read, named_text, section_parts, section, sections}
 use Rattle.web_scan.specs.Scan.{scan_of}
 use Rattle.web_scan.specs.Lawful.{IsTextOf, IsPascalTextOf, IsValueOf, IsLawful}
 use Rattle.web_scan.proofs.StepLemmas.{IfOk-step, IfOk-at, IfOk-weaker, choice}
 use Rattle.web_scan.proofs.PlacesLemmas.{AddsOrdinary-none}
-use Rattle.web_scan.proofs.KeepsLemmas.{Grows, Keeps, Keeps-none, IsTextOf-grows, texts-grow, pieces-grow, named-grow, IsValueOf-texts, IsLawful-keeps}
+use Rattle.web_scan.proofs.KeepsLemmas.{Grows, Keeps, Keeps-none, IsTextOf-grows, texts-grow, pieces-grow, named-grow}
+use Rattle.web_scan.proofs.KeepsLemmas.{IsValueOf-texts, IsLawful-keeps}
 use Rattle.web_scan.proofs.StringNumberLemmas.{AreFew}
 use Rattle.web_scan.proofs.OpenTextLemmas.{IsSoFar-none}
 use Rattle.web_scan.proofs.LawfulTextLemmas.{IsTokenRead, token_read-is, IsReadText}
@@ -35,7 +39,8 @@ SoundAfter answer = IsSound answer.1.web
 
 -- one more text under a name
 with_text_under-all :
-    (web : Scanned) (name : ℕ) (piece : PascalText) (named : List (List PascalText)) → All (All (IsPascalTextOf web)) named
+    (web : Scanned) (name : ℕ) (piece : PascalText) (named : List (List PascalText))
+    → All (All (IsPascalTextOf web)) named
     → IsPascalTextOf web piece → All (All (IsPascalTextOf web)) (with_text_under name piece named)
 with_text_under-all web zero piece [] all here =
     All-cons (All (IsPascalTextOf web)) (piece ∷ []) []
@@ -77,7 +82,8 @@ with_pascal_text-sound None before text web sound read =
       lawful = record {
         names = same_values web after refl lawful.names;
         texts = texts-grow web after grows web.texts lawful.texts;
-        unnamed = All-push (IsPascalTextOf after) web.unnamed piece (pieces-grow web after grows web.unnamed lawful.unnamed) new;
+        unnamed = All-push (IsPascalTextOf after) web.unnamed piece
+            (pieces-grow web after grows web.unnamed lawful.unnamed) new;
         named = named-grow web after grows web.named lawful.named;
       };
       few = read.few;
@@ -99,7 +105,8 @@ with_pascal_text-sound (Some name) before text web sound read =
       few = read.few;
     }
 
-pascal_text-sound : (name : Option ℕ) (scanning : Scanning) → IsSound scanning.web → IfOk (pascal_text name scanning) SoundAfter
+pascal_text-sound : (name : Option ℕ) (scanning : Scanning) → IsSound scanning.web
+    → IfOk (pascal_text name scanning) SoundAfter
 unfolding pascal_text
 pascal_text-sound name scanning sound =
     IfOk-step (λ read. IsReadText class.Ordinary scanning.web read.0 read.2.web) SoundAfter
@@ -114,7 +121,8 @@ abbrev SameWeb : Scanned → Scanning → Type 0
 SameWeb web after = after.web ≡ web
 
 head_from-same :
-    (web : Scanned) (token : Token) (scanning : Scanning) (further : Scanning → Result Scanning Fault) → scanning.web ≡ web
+    (web : Scanned) (token : Token) (scanning : Scanning) (further : Scanning → Result Scanning Fault)
+    → scanning.web ≡ web
     → ((after : Scanning) → after.web ≡ web → IfOk (further after) (SameWeb web))
     → IfOk (head_from token scanning further) (SameWeb web)
 head_from-same web token scanning further same goes_on =
@@ -123,11 +131,13 @@ head_from-same web token scanning further same goes_on =
     choice P (is_equals token) (Ok scanning) (if is_sign 43 token then further scanning else wrong) (λ equals. same)
     (λ other. choice P (is_sign 43 token) (further scanning) wrong (λ plus. goes_on scanning same) (λ other. tt))
 
-head_read-same : (most : ℕ) (web : Scanned) (scanning : Scanning) → scanning.web ≡ web → IfOk (head_read most scanning) (SameWeb web)
+head_read-same : (most : ℕ) (web : Scanned) (scanning : Scanning) → scanning.web ≡ web
+    → IfOk (head_read most scanning) (SameWeb web)
 unfolding head_read
 head_read-same zero web scanning same = same
 head_read-same (suc most) web scanning same =
-    IfOk-step (IsTokenRead scanning) (SameWeb web) (token_read scanning) (λ read. head_from read.0 read.1 (head_read most))
+    IfOk-step (IsTokenRead scanning) (SameWeb web) (token_read scanning)
+    (λ read. head_from read.0 read.1 (head_read most))
     (token_read-is scanning)
     (λ read token. head_from-same web read.0 read.1 (head_read most) (token.same ∙ same) (head_read-same most web))
 
@@ -148,7 +158,8 @@ named_text-sound scanning sound =
     (λ begun same. pascal_text-sound (Some name.0) begun (subst IsSound (sym same) named)))
 
 -- the parts of a section
-section_parts-sound : (most : ℕ) (begins : Code) (scanning : Scanning) → IsSound scanning.web → IfOk (section_parts most begins scanning) SoundAfter
+section_parts-sound : (most : ℕ) (begins : Code) (scanning : Scanning) → IsSound scanning.web
+    → IfOk (section_parts most begins scanning) SoundAfter
 unfolding section_parts
 section_parts-sound zero begins scanning sound = sound
 section_parts-sound (suc most) code.Definition scanning sound =
@@ -178,25 +189,30 @@ begun-sound web sound =
 section_begun-sound : (place : Place) (web : Scanned) → IsSound web → IfOk (section_begun place web) IsSound
 section_begun-sound place web sound =
     choice (λ (answer : Result Scanned Fault). IfOk answer IsSound) (nat_lt web.count SECTION_LIMIT)
-    (Ok (record web { count = web.count + 1 })) (Err (limit_passed LIMIT_SECTIONS place)) (λ room. begun-sound web sound)
+    (Ok (record web { count = web.count + 1 })) (Err (limit_passed LIMIT_SECTIONS place))
+    (λ room. begun-sound web sound)
     (λ full. tt)
 
 section-sound : (scanning : Scanning) → IsSound scanning.web → IfOk (section scanning) SoundAfter
 unfolding section
 section-sound scanning sound =
     IfOk-step IsSound SoundAfter (section_begun (place_of_last scanning) scanning.web)
-    (λ web. let found = code_found (record scanning { web = web }) in section_parts (most_tokens scanning) found.0 found.1)
+    (λ web.
+    let found = code_found (record scanning { web = web }) in
+    section_parts (most_tokens scanning) found.0 found.1)
     (section_begun-sound (place_of_last scanning) scanning.web sound)
     (λ web sound.
     let found = code_found (record scanning { web = web }) in
     section_parts-sound (most_tokens scanning) found.0 found.1 sound)
 
-sections-sound : (most : ℕ) (begins : Code) (scanning : Scanning) → IsSound scanning.web → IfOk (sections most begins scanning) IsSound
+sections-sound : (most : ℕ) (begins : Code) (scanning : Scanning) → IsSound scanning.web
+    → IfOk (sections most begins scanning) IsSound
 unfolding sections
 sections-sound zero begins scanning sound = sound
 sections-sound (suc most) code.End scanning sound = sound
 sections-sound (suc most) code.Section scanning sound =
-    IfOk-step SoundAfter IsSound (section scanning) (λ ended. sections most ended.0 ended.1) (section-sound scanning sound)
+    IfOk-step SoundAfter IsSound (section scanning) (λ ended. sections most ended.0 ended.1)
+    (section-sound scanning sound)
     (λ ended sound. sections-sound most ended.0 ended.1 sound)
 sections-sound (suc most) passed scanning sound =
     let found = code_found scanning in sections-sound most found.0 found.1 sound
@@ -224,5 +240,6 @@ scan_of-lawful options lines =
     IfOk-weaker IsSound IsLawful (sections (most_tokens begin) found.0 found.1)
     (sections-sound (most_tokens begin) found.0 found.1 (nothing-sound options)) (λ web sound. sound.lawful)
 
-pub IsLawful-scanned : (options : Options) (lines : List Line) (web : Scanned) → scan_of options lines ≡ Ok web → IsLawful web
+pub IsLawful-scanned : (options : Options) (lines : List Line) (web : Scanned) → scan_of options lines ≡ Ok web
+    → IsLawful web
 IsLawful-scanned options lines web is = IfOk-at IsLawful (scan_of options lines) web is (scan_of-lawful options lines)

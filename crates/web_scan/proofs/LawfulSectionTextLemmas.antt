@@ -24,25 +24,30 @@ use Rattle.web_scan.proofs.PlacesLemmas.{AddsOrdinary-none, IsWhole, whole_name-
 use Rattle.web_scan.proofs.KeepsLemmas.{Keeps-none}
 use Rattle.web_scan.proofs.StoredTokenLemmas.{Ready, Stores, stored-new, IfOk-unless_refused}
 use Rattle.web_scan.proofs.OpenTextLemmas.{IsSoFar, IsSoFar-more}
-use Rattle.web_scan.proofs.LawfulTextLemmas.{IsTokenRead, token_read-is, Continues, Continues-more, text_token-continues, IsReadText, HasReadText, ended-read, same_web}
+use Rattle.web_scan.proofs.LawfulTextLemmas.{IsTokenRead, token_read-is, Continues, Continues-more}
+use Rattle.web_scan.proofs.LawfulTextLemmas.{text_token-continues, IsReadText, HasReadText, ended-read, same_web}
 
 -- the place of a name of a section, and the web after it
 pub record IsNameFound (web : Scanned) (answer : ℕ × Scanned) : Type 0 where
   pub ready : Ready web answer.1
   pub within : answer.0 < length answer.1.sections
 
-name_found-ready : (place : Place) (name : SectionName) (web : Scanned) → AreFew web.strings → IfOk (name_found place name web) (IsNameFound web)
+name_found-ready : (place : Place) (name : SectionName) (web : Scanned) → AreFew web.strings
+    → IfOk (name_found place name web) (IsNameFound web)
 name_found-ready place name web few =
     let found = unless_refused LIMIT_SECTION_NAMES place (prefix_name name.text web.sections) in
     let whole = unless_refused LIMIT_SECTION_NAMES place (whole_name name.text web.sections) in
     let with_found : ℕ → Result (ℕ × Scanned) Fault = λ found. Ok (found, web) in
-    let with_whole : ℕ × List (List ℕ) → Result (ℕ × Scanned) Fault = λ answer. Ok (answer.0, record web { sections = answer.1 }) in
+    let with_whole : ℕ × List (List ℕ) → Result (ℕ × Scanned) Fault =
+    λ answer. Ok (answer.0, record web { sections = answer.1 }) in
     choice (λ answer. IfOk answer (IsNameFound web)) name.prefix (found >>= with_found) (whole >>= with_whole)
     (λ prefix. IfOk-step (λ place. place < length web.sections) (IsNameFound web) found with_found
-    (IfOk-unless_refused (λ place. place < length web.sections) LIMIT_SECTION_NAMES place (prefix_name name.text web.sections) (prefix_name-within name.text web.sections))
+    (IfOk-unless_refused (λ place. place < length web.sections) LIMIT_SECTION_NAMES place
+    (prefix_name name.text web.sections) (prefix_name-within name.text web.sections))
     (λ found within. record { ready = record { keeps = Keeps-none web; few = few; tokens = refl }; within = within }))
     (λ no_prefix. IfOk-step (IsWhole web.sections) (IsNameFound web) whole with_whole
-    (IfOk-unless_refused (IsWhole web.sections) LIMIT_SECTION_NAMES place (whole_name name.text web.sections) (whole_name-within name.text web.sections))
+    (IfOk-unless_refused (IsWhole web.sections) LIMIT_SECTION_NAMES place (whole_name name.text web.sections)
+    (whole_name-within name.text web.sections))
     (λ answer is. record {
       ready = record {
         keeps = record {
@@ -63,14 +68,17 @@ name_found-ready place name web few =
 pub record IsNameRead (before : Scanning) (answer : ℕ × Scanning) : Type 0 where
   pub found : IsNameFound before.web (answer.0, answer.1.web)
 
-pub name_read-ready : (scanning : Scanning) → AreFew scanning.web.strings → IfOk (name_read scanning) (IsNameRead scanning)
+pub name_read-ready : (scanning : Scanning) → AreFew scanning.web.strings
+    → IfOk (name_read scanning) (IsNameRead scanning)
 name_read-ready scanning few =
     let place = place_of_last scanning in
     IfOk-step (λ read. ⊤) (IsNameRead scanning) (next_name scanning.reading)
-    (λ read. name_found place read.0 scanning.web >>= (λ answer. Ok (answer.0, record { reading = read.1; web = answer.1 })))
+    (λ read. name_found place read.0 scanning.web
+    >>= (λ answer. Ok (answer.0, record { reading = read.1; web = answer.1 })))
     (any_ok (next_name scanning.reading))
     (λ read some. IfOk-step (IsNameFound scanning.web) (IsNameRead scanning) (name_found place read.0 scanning.web)
-    (λ answer. Ok (answer.0, record { reading = read.1; web = answer.1 })) (name_found-ready place read.0 scanning.web few)
+    (λ answer. Ok (answer.0, record { reading = read.1; web = answer.1 }))
+    (name_found-ready place read.0 scanning.web few)
     (λ answer is. record { found = is }))
 
 -- the name of a section in a text
@@ -80,11 +88,13 @@ section_used-continues :
 section_used-continues kind first scanning few is =
     let Q : Scanning → Type 0 = λ after. Continues kind first scanning.web after.web in
     IfOk-step (IsNameRead scanning) Q (name_read scanning)
-    (λ read. stored (place_of_last read.1) (tok.Section read.0) read.1.web >>= (λ web. Ok (record read.1 { web = web })))
+    (λ read. stored (place_of_last read.1) (tok.Section read.0) read.1.web
+    >>= (λ web. Ok (record read.1 { web = web })))
     (name_read-ready scanning few)
     (λ read name. IfOk-step (Stores kind (control code.Name) scanning.web) Q
     (stored (place_of_last read.1) (tok.Section read.0) read.1.web) (λ web. Ok (record read.1 { web = web }))
-    (stored-new kind (control code.Name) (place_of_last read.1) (tok.Section read.0) scanning.web read.1.web name.found.ready
+    (stored-new kind (control code.Name) (place_of_last read.1) (tok.Section read.0) scanning.web read.1.web
+    name.found.ready
     (record { of = name.found.within; closes = λ other. absurd cc; parameter = λ other. absurd cc }))
     (λ web stores. record {
       keeps = stores.keeps;
@@ -95,20 +105,24 @@ section_used-continues kind first scanning few is =
 -- the text of a section from a token on
 abbrev GoesOn : ℕ → Scanned → (Scanning → TextRead) → Type 0
 GoesOn first before further =
-    (after : Scanning) → Continues class.Ordinary first before after.web → HasReadText class.Ordinary before (further after)
+    (after : Scanning) → Continues class.Ordinary first before after.web
+    → HasReadText class.Ordinary before (further after)
 
 one_more :
-    (first : ℕ) (before : Scanned) (token : Token) (scanning : Scanning) (further : Scanning → TextRead) → IsReadable token
+    (first : ℕ) (before : Scanned) (token : Token) (scanning : Scanning) (further : Scanning → TextRead)
+    → IsReadable token
     → Continues class.Ordinary first before scanning.web → GoesOn first before further
     → HasReadText class.Ordinary before (text_token class.Ordinary first token scanning >>= further)
 one_more first before token scanning further readable is goes_on =
     IfOk-step (λ after. Continues class.Ordinary first scanning.web after.web)
-    (λ read. IsReadText class.Ordinary before read.0 read.2.web) (text_token class.Ordinary first token scanning) further
+    (λ read. IsReadText class.Ordinary before read.0 read.2.web) (text_token class.Ordinary first token scanning)
+    further
     (text_token-continues class.Ordinary first token scanning is.few readable is.so_far)
     (λ after more. goes_on after (Continues-more class.Ordinary first before scanning.web after.web is.keeps more))
 
 section_text_from-read :
-    (first : ℕ) (before : Scanned) (token : Token) (scanning : Scanning) (further : Scanning → TextRead) → IsReadable token
+    (first : ℕ) (before : Scanned) (token : Token) (scanning : Scanning) (further : Scanning → TextRead)
+    → IsReadable token
     → Continues class.Ordinary first before scanning.web → GoesOn first before further
     → HasReadText class.Ordinary before (section_text_from first token scanning further)
 section_text_from-read first before end_of_input scanning further readable is goes_on =

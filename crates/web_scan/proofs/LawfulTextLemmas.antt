@@ -1,5 +1,6 @@
 -- Texts that are read are texts of the web.
-use Rattle.std.proofs.Common.{◌≡◌, ℕ, zero, suc, ◌==◌, ◌&&◌, Bool, true, false, List, Option, Some, None, Result, Ok, Err, IfOk, refl, sym, subst}
+use Rattle.std.proofs.Common.{◌≡◌, ℕ, zero, suc, ◌==◌, ◌&&◌, Bool, true, false, List, Option, Some, None, Result, Ok}
+use Rattle.std.proofs.Common.{Err, IfOk, refl, sym, subst}
 use Rattle.wb_base.specs.declared.faults.Fault.{Fault}
 use Rattle.wb_base.specs.declared.faults.TheConstants.{UNBALANCED_PARENTHESES}
 use Rattle.wb_base.specs.declared.tokens.Tok.{Tok}
@@ -12,7 +13,8 @@ use Rattle.web_lex.specs.Reading.{next_token}
 use Rattle.web_names.specs.declared.classes.Class.{Class}
 use Rattle.web_names.specs.declared.classes.Class.TheVariants as class
 use Rattle.web_scan.specs.Scanned.{Scanned, Scanning, place_of_last, token_read}
-use Rattle.web_scan.specs.Texts.{token_stored, still_open, is_closing, stored_since, text_token, ended_text, ending_code, TextRead, macro_text_from, macro_text}
+use Rattle.web_scan.specs.Texts.{token_stored, still_open, is_closing, stored_since, text_token, ended_text}
+use Rattle.web_scan.specs.Texts.{ending_code, TextRead, macro_text_from, macro_text}
 use Rattle.web_scan.specs.Lawful.{IsTextOf, HasNoParameter}
 use Rattle.web_scan.proofs.StepLemmas.{IfOk-step, choice}
 use Rattle.web_scan.proofs.ReadTokenLemmas.{IsReadable, next_token-readable}
@@ -60,7 +62,8 @@ text_token-continues kind first token scanning few readable is =
       keeps = stores.keeps;
       few = stores.few;
       so_far = IsSoFar-more kind first token scanning.web web
-          (λ closes. other_false (is_closing token) (still_open (stored_since first scanning.web) == 0) closes not_extra) stores is;
+          (λ closes. other_false (is_closing token) (still_open (stored_since first scanning.web) == 0) closes
+          not_extra) stores is;
     }))
 
 -- a text of a web before it, which was read
@@ -81,7 +84,8 @@ pub ended-read :
 ended-read kind first before last scanning is =
     let text = stored_since first scanning.web in
     let further : List Tok → TextRead = λ text. Ok (text, last, scanning) in
-    choice (λ (answer : Result (List Tok) Fault). HasReadText kind before (answer >>= further)) (still_open text == 0) (Ok text)
+    choice (λ (answer : Result (List Tok) Fault). HasReadText kind before (answer >>= further)) (still_open text == 0)
+    (Ok text)
     (Err (fault_at UNBALANCED_PARENTHESES (place_of_last scanning)))
     (λ closed. record {
       keeps = is.keeps;
@@ -112,7 +116,8 @@ macro_text_from-read kind first before token scanning further None readable is g
     (λ after more. goes_on after (Continues-more kind first before scanning.web after.web is.keeps more))
 
 -- the same text in a web that is the same
-pub same_web : (kind : Class) (first : ℕ) (before web other : Scanned) → other ≡ web → Continues kind first before web → Continues kind first before other
+pub same_web : (kind : Class) (first : ℕ) (before web other : Scanned) → other ≡ web → Continues kind first before web
+    → Continues kind first before other
 same_web kind first before web other same is = subst (Continues kind first before) (sym same) is
 
 pub macro_text-read :
@@ -124,5 +129,6 @@ macro_text-read (suc most) kind first before scanning is =
     IfOk-step (IsTokenRead scanning) (λ read. IsReadText kind before read.0 read.2.web) (token_read scanning)
     (λ read. macro_text_from kind first read.0 read.1 (macro_text most kind first) (ending_code read.0))
     (token_read-is scanning)
-    (λ read token. macro_text_from-read kind first before read.0 read.1 (macro_text most kind first) (ending_code read.0) token.readable
+    (λ read token. macro_text_from-read kind first before read.0 read.1 (macro_text most kind first)
+    (ending_code read.0) token.readable
     (same_web kind first before scanning.web read.1.web token.same is) (macro_text-read most kind first before))

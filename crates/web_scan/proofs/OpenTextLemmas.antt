@@ -1,5 +1,7 @@
 -- A text while it is read: its tokens are lawful, and whatever follows it, parentheses balance as from its depth.
-use Rattle.std.proofs.Common.{◌≡◌, ℕ, ◌+◌, ◌-◌, ◌≤◌, ◌==◌, ◌&&◌, inl, inr, Bool, true, false, nat_lt, if◌then◌else◌, List, [], ◌∷◌, ◌++◌, length, drop, All, refl, sym, ap, ◌∙◌, subst, arith, append_assoc, append-nil, length-append}
+use Rattle.std.proofs.Common.{◌≡◌, ℕ, ◌+◌, ◌-◌, ◌≤◌, ◌==◌, ◌&&◌, inl, inr, Bool, true, false, nat_lt, if◌then◌else◌}
+use Rattle.std.proofs.Common.{List, [], ◌∷◌, ◌++◌, length, drop, All, refl, sym, ap, ◌∙◌, subst, arith, append_assoc}
+use Rattle.std.proofs.Common.{append-nil, length-append}
 use Rattle.std.proofs.lemmas.Bool.Decides.{nat_tests}
 use Rattle.std.proofs.lemmas.List.{drop-append-le}
 use Rattle.std.proofs.lemmas.List.Sums.{fold_push}
@@ -33,9 +35,11 @@ sign_step false true depth rest some =
 sign_step false false depth rest some = refl
 
 -- a token before the rest
-token_step : (depth : ℕ) (new : Tok) (rest : List Tok) → (new ≡ tok.Sign 41 → depth == 0 ≡ false) → is_balanced_from depth (new ∷ rest) ≡ is_balanced_from (opened_after depth new) rest
+token_step : (depth : ℕ) (new : Tok) (rest : List Tok) → (new ≡ tok.Sign 41 → depth == 0 ≡ false)
+    → is_balanced_from depth (new ∷ rest) ≡ is_balanced_from (opened_after depth new) rest
 token_step depth (tok.Sign byte) rest some =
-    sign_step (byte == 40) (byte == 41) depth rest (λ closes. some (let same : byte ≡ 41 = grind (arith, nat_tests) in ap (λ byte. tok.Sign byte) same))
+    sign_step (byte == 40) (byte == 41) depth rest
+    (λ closes. some (let same : byte ≡ 41 = grind (arith, nat_tests) in ap (λ byte. tok.Sign byte) same))
 token_step depth (tok.Letter byte) rest some = refl
 token_step depth (tok.Digit byte) rest some = refl
 token_step depth (tok.Name id) rest some = refl
@@ -50,7 +54,8 @@ token_step depth tok.Line rest some = refl
 token_step depth tok.MetaOpen rest some = refl
 token_step depth tok.MetaClose rest some = refl
 
-BalancesOn-push : (text : List Tok) (new : Tok) → BalancesOn text → (new ≡ tok.Sign 41 → still_open text == 0 ≡ false) → BalancesOn (text ++ new ∷ [])
+BalancesOn-push : (text : List Tok) (new : Tok) → BalancesOn text → (new ≡ tok.Sign 41 → still_open text == 0 ≡ false)
+    → BalancesOn (text ++ new ∷ [])
 BalancesOn-push text new balances some = λ rest.
     ap (is_balanced_from 0) (append_assoc text (new ∷ []) rest) ∙ balances (new ∷ rest)
     ∙ token_step (still_open text) new rest some
@@ -102,8 +107,11 @@ one_token kind first token web after keeps some has is =
     record {
       within = omega (arith, is.within, ap length has.is, length-append web.tokens (new ∷ []));
       tokens = subst (All (IsTokenOf after)) text (All-push (IsTokenOf after) before new grown has.stands.of);
-      balances = subst BalancesOn text (BalancesOn-push before new is.balances (λ closes. some (has.stands.closes closes)));
-      parameter = λ other. subst HasNoParameter text (All-push (λ token. token ≡ tok.Param → ⊥) before new (is.parameter other) (λ param. other (has.stands.parameter param)));
+      balances = subst BalancesOn text
+          (BalancesOn-push before new is.balances (λ closes. some (has.stands.closes closes)));
+      parameter = λ other. subst HasNoParameter text
+          (All-push (λ token. token ≡ tok.Param → ⊥) before new (is.parameter other)
+          (λ param. other (has.stands.parameter param)));
     }
 
 -- what a token of the text leaves
@@ -118,7 +126,8 @@ IsSoFar-more kind first token web after some stores is =
     ]
 
 -- a text that is read, where no parenthesis is open
-pub IsTextOf-so_far : (kind : Class) (first : ℕ) (web : Scanned) → IsSoFar kind first web → still_open (stored_since first web) == 0 ≡ true → IsTextOf web (stored_since first web)
+pub IsTextOf-so_far : (kind : Class) (first : ℕ) (web : Scanned) → IsSoFar kind first web
+    → still_open (stored_since first web) == 0 ≡ true → IsTextOf web (stored_since first web)
 IsTextOf-so_far kind first web is closed =
     let text = stored_since first web in
     record {

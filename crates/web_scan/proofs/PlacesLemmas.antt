@@ -1,16 +1,22 @@
 -- The names of a web after a use and a definition, and the places of names of sections.
-use Rattle.std.proofs.Common.{◌≡◌, ℕ, ℤ, zero, suc, ◌+◌, ◌<◌, ◌≤◌, not, nat_lt, if◌then◌else◌, List, [], ◌∷◌, ◌++◌, length, map, filter, All, Option, Some, None, Result, Ok, Err, IfOk, position, refl, sym, ap, ◌∙◌, arith, length-append, append_assoc, append-nil}
+use Rattle.std.proofs.Common.{◌≡◌, ℕ, ℤ, zero, suc, ◌+◌, ◌<◌, ◌≤◌, not, nat_lt, if◌then◌else◌, List, [], ◌∷◌, ◌++◌}
+use Rattle.std.proofs.Common.{length, map, filter, All, Option, Some, None, Result, Ok, Err, IfOk, position, refl, sym}
+use Rattle.std.proofs.Common.{ap, ◌∙◌, arith, length-append, append_assoc, append-nil}
 use Rattle.std.specs.List.{list_any, enumerate_from}
 use Rattle.std.specs.Str.{bytes_eq}
-use Rattle.std.proofs.lemmas.List.Elements.{All-nil, All-cons, All-head, All-tail, All-append, All-push, All-map, All-filter}
+use Rattle.std.proofs.lemmas.List.Elements.{All-nil, All-cons, All-head, All-tail, All-append, All-push, All-map}
+use Rattle.std.proofs.lemmas.List.Elements.{All-filter}
 use Rattle.std.proofs.lemmas.List.Quantifiers.{position-Some}
 use Rattle.wb_base.specs.declared.options.Options.{Options}
 use Rattle.web_names.specs.declared.classes.Class.{Class}
 use Rattle.web_names.specs.declared.classes.Class.TheVariants as class
 use Rattle.web_names.specs.declared.name_errors.NameErr.{NameErr}
 use Rattle.web_names.specs.declared.name_errors.NameErr.TheVariants as refusal
-use Rattle.web_names.specs.Identifiers.{Name, id_of, is_ordinary, is_numeric, is_in_conflict, class_of, new_name, with_name, used, used_at, defined, defined_at, defined_again, changed_at, with_class, with_value, name_limit}
-use Rattle.web_names.specs.SectionNames.{is_prefix_of, is_incompatible, section_limit, whole_at, whole_name, the_only, prefix_name}
+use Rattle.web_names.specs.Identifiers.{Name, id_of, is_ordinary, is_numeric, is_in_conflict, class_of, new_name}
+use Rattle.web_names.specs.Identifiers.{with_name, used, used_at, defined, defined_at, defined_again, changed_at}
+use Rattle.web_names.specs.Identifiers.{with_class, with_value, name_limit}
+use Rattle.web_names.specs.SectionNames.{is_prefix_of, is_incompatible, section_limit, whole_at, whole_name, the_only}
+use Rattle.web_names.specs.SectionNames.{prefix_name}
 use Rattle.web_scan.proofs.StepLemmas.{choice}
 use Rattle.web_scan.proofs.NamesLemmas.{id_of-among, length-changed_at}
 
@@ -24,7 +30,8 @@ pub AddsOrdinary-none : (names : List Name) → AddsOrdinary names names
 AddsOrdinary-none names =
     record { more = []; is = sym (append-nil names); ordinary = All-nil (λ name. name.class ≡ class.Ordinary) }
 
-pub AddsOrdinary-more : (before between after : List Name) → AddsOrdinary before between → AddsOrdinary between after → AddsOrdinary before after
+pub AddsOrdinary-more : (before between after : List Name) → AddsOrdinary before between → AddsOrdinary between after
+    → AddsOrdinary before after
 AddsOrdinary-more before between after first then_ = record {
   more = first.more ++ then_.more;
   is = then_.is ∙ ap (λ names. names ++ then_.more) first.is ∙ append_assoc before first.more then_.more;
@@ -50,15 +57,19 @@ with_name-use word names =
       adds = record {
         more = name ∷ [];
         is = refl;
-        ordinary = All-cons (λ name. name.class ≡ class.Ordinary) name [] refl (All-nil (λ name. name.class ≡ class.Ordinary));
+        ordinary = All-cons (λ name. name.class ≡ class.Ordinary) name [] refl
+            (All-nil (λ name. name.class ≡ class.Ordinary));
       };
       among = omega (arith, length-append names (name ∷ []));
     }) (λ full. tt)
 
-used_at-use : (held : Option ℕ) (options : Options) (word : List ℕ) (names : List Name) → id_of word names ≡ held → HasUse names (used_at held options word names)
-used_at-use (Some id) options word names is = record { adds = AddsOrdinary-none names; among = id_of-among word names id is }
+used_at-use : (held : Option ℕ) (options : Options) (word : List ℕ) (names : List Name) → id_of word names ≡ held
+    → HasUse names (used_at held options word names)
+used_at-use (Some id) options word names is =
+    record { adds = AddsOrdinary-none names; among = id_of-among word names id is }
 used_at-use None options word names is =
-    choice (HasUse names) (is_in_conflict options word names) (Err refusal.Conflict) (with_name (new_name word class.Ordinary) names)
+    choice (HasUse names) (is_in_conflict options word names) (Err refusal.Conflict)
+    (with_name (new_name word class.Ordinary) names)
     (λ conflict. tt) (λ none. with_name-use word names)
 
 pub used-use : (options : Options) (word : List ℕ) (names : List Name) → HasUse names (used options word names)
@@ -74,7 +85,8 @@ abbrev HasDefined : (Class → ℤ → Type 0) → ℤ → List Name → Result 
 HasDefined P value before answer = IfOk answer (IsDefined P value before)
 
 -- the last name gets a value
-changed_at-last : (change : Name → Name) (names : List Name) (name : Name) → changed_at (length names) change (names ++ name ∷ []) ≡ names ++ change name ∷ []
+changed_at-last : (change : Name → Name) (names : List Name) (name : Name)
+    → changed_at (length names) change (names ++ name ∷ []) ≡ names ++ change name ∷ []
 changed_at-last change [] name = refl
 changed_at-last change (other ∷ names) name = ap (λ rest. other ∷ rest) (changed_at-last change names name)
 
@@ -106,7 +118,8 @@ with_name-defined P kind value word names all here =
     (Err refusal.Full)
     (λ room. record {
       grows = omega (arith, length-append names (name ∷ []));
-      all = rw (changed_at-last (λ name. record name { value = value }) names name) (All-push (λ name. P name.class name.value) names valued all here);
+      all = rw (changed_at-last (λ name. record name { value = value }) names name)
+          (All-push (λ name. P name.class name.value) names valued all here);
     }) (λ full. tt)
 
 again-defined :
@@ -118,7 +131,8 @@ again-defined P kind value id names all here =
     let changed = changed_at id (with_class kind) names in
     choice (HasDefined P value names) (not (is_ordinary (class_of id names))) (Err refusal.Before)
     (if is_numeric kind then Err refusal.Appeared else Ok (id, changed)) (λ macro. tt)
-    (λ ordinary. choice (HasDefined P value names) (is_numeric kind) (Err refusal.Appeared) (Ok (id, changed)) (λ numeric. tt)
+    (λ ordinary. choice (HasDefined P value names) (is_numeric kind) (Err refusal.Appeared) (Ok (id, changed))
+    (λ numeric. tt)
     (λ text. record {
       grows = omega (arith, length-changed_at id (with_class kind) names);
       all = changed_at-all P kind value id names all here;
@@ -172,16 +186,19 @@ enumerate_from-within (name ∷ names) from limit within =
     All-cons (λ entry. entry.0 < limit) (from, name) (enumerate_from (from + 1) names) (omega arith)
     (enumerate_from-within names (from + 1) limit (omega arith))
 
-the_only-within : (places : List ℕ) (limit : ℕ) → All (λ place. place < limit) places → IfOk (the_only places) (λ place. place < limit)
+the_only-within : (places : List ℕ) (limit : ℕ) → All (λ place. place < limit) places
+    → IfOk (the_only places) (λ place. place < limit)
 the_only-within [] limit all = tt
 the_only-within (place ∷ []) limit all = All-head (λ place. place < limit) place [] all
 the_only-within (place ∷ (other ∷ others)) limit all = tt
 
-pub prefix_name-within : (prefix : List ℕ) (names : List (List ℕ)) → IfOk (prefix_name prefix names) (λ place. place < length names)
+pub prefix_name-within : (prefix : List ℕ) (names : List (List ℕ))
+    → IfOk (prefix_name prefix names) (λ place. place < length names)
 unfolding prefix_name
 prefix_name-within prefix names =
     let entries = enumerate_from 0 names in
-    let within : All (λ entry. entry.0 < length names) entries = enumerate_from-within names 0 (length names) (omega arith) in
+    let within : All (λ entry. entry.0 < length names) entries = enumerate_from-within names 0 (length names)
+    (omega arith) in
     let kept = filter (λ entry. is_prefix_of prefix entry.1) entries in
     the_only-within (map (λ entry. entry.0) kept) (length names)
     (All-map (λ place. place < length names) (λ entry. entry.0) kept

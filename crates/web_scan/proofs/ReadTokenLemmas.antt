@@ -1,5 +1,6 @@
 -- What holds of each token that is read: digits are decimal, and numbers and bytes of strings small.
-use Rattle.std.proofs.Common.{◌≡◌, ℕ, suc, ◌+◌, ◌≤◌, ◌==◌, ◌&&◌, Bool, true, nat_lt, if◌then◌else◌, List, [], ◌∷◌, length, take, drop, All, IsTrue, Option, Some, None, Result, Ok, Err, IfOk, arith}
+use Rattle.std.proofs.Common.{◌≡◌, ℕ, suc, ◌+◌, ◌≤◌, ◌==◌, ◌&&◌, Bool, true, nat_lt, if◌then◌else◌, List, [], ◌∷◌}
+use Rattle.std.proofs.Common.{length, take, drop, All, IsTrue, Option, Some, None, Result, Ok, Err, IfOk, arith}
 use Rattle.std.specs.Prelude.{⊤}
 use Rattle.std.specs.Char.{is_ascii_digit, is_ascii_alphabetic, is_ascii_graphic}
 use Rattle.std.specs.List.{take_while}
@@ -8,15 +9,21 @@ use Rattle.std.proofs.lemmas.Bool.Decides.{nat_tests}
 use Rattle.std.proofs.lemmas.List.Elements.{All-nil, All-cons}
 use Rattle.wb_base.specs.declared.places.Place.{Place}
 use Rattle.wb_base.specs.declared.faults.Fault.{Fault}
-use Rattle.wb_base.specs.declared.faults.TheConstants.{BAD_BYTE, AT_SIGN_NOT_DOUBLED, STRING_NOT_ENDED, STRAY_END, BAD_CONTROL_TEXT, VALUE_TOO_BIG, REAL_CONSTANT}
+use Rattle.wb_base.specs.declared.faults.TheConstants.{BAD_BYTE, AT_SIGN_NOT_DOUBLED, STRING_NOT_ENDED, STRAY_END}
+use Rattle.wb_base.specs.declared.faults.TheConstants.{BAD_CONTROL_TEXT, VALUE_TOO_BIG, REAL_CONSTANT}
 use Rattle.wb_base.specs.FaultAt.{fault_at}
 use Rattle.wb_base.specs.Steps.{◌>>=◌}
 use Rattle.web_lex.specs.declared.codes.Code.{Code}
 use Rattle.web_lex.specs.declared.codes.Code.TheVariants as code
 use Rattle.web_lex.specs.Raw.{PlacedByte, place_of, bytes_of_line}
-use Rattle.web_lex.specs.Token.{Token, letter, digit, word, based, sign, quoted, pool, verbatim, LineToken, token_on, greatest_value, quote, end_code, Part, single, doubled, ending, wrong, part_of, inner_part, is_next, is_text_byte, is_word_byte, size_from, text_size, text_token, string_on, number_of, value_in, coded_on, code_before, sign_on, sign_beside, pair_table, word_on, is_octal_digit, is_hex_digit}
+use Rattle.web_lex.specs.Token.{Token, letter, digit, word, based, sign, quoted, pool, verbatim, LineToken, token_on}
+use Rattle.web_lex.specs.Token.{greatest_value, quote, end_code, Part, single, doubled, ending, wrong, part_of}
+use Rattle.web_lex.specs.Token.{inner_part, is_next, is_text_byte, is_word_byte, size_from, text_size, text_token}
+use Rattle.web_lex.specs.Token.{string_on, number_of, value_in, coded_on, code_before, sign_on, sign_beside}
+use Rattle.web_lex.specs.Token.{pair_table, word_on, is_octal_digit, is_hex_digit}
 use Rattle.web_lex.specs.Gaps.{after_gaps}
-use Rattle.web_lex.specs.Reading.{Read, Reading, read_first, first_token, token_at, begins_exponent, next_token, unless_met, after_token}
+use Rattle.web_lex.specs.Reading.{Read, Reading, read_first, first_token, token_at, begins_exponent, next_token}
+use Rattle.web_lex.specs.Reading.{unless_met, after_token}
 use Rattle.web_scan.proofs.StepLemmas.{IfOk-step, any_ok, choice}
 
 -- the byte is at most the last that may stand in a string
@@ -42,7 +49,8 @@ IsPart byte next ending = ⊤
 IsPart byte next (wrong code) = ⊤
 
 -- a byte is a doubled one where the next is the same
-doubled_part : (mark byte : ℕ) (next : Option ℕ) → byte ≤ 126 → mark ≤ 126 → is_next mark next ≡ true → IsPart byte next doubled
+doubled_part : (mark byte : ℕ) (next : Option ℕ) → byte ≤ 126 → mark ≤ 126 → is_next mark next ≡ true
+    → IsPart byte next doubled
 doubled_part mark byte None small small_mark is = absurd cc
 doubled_part mark byte (Some next) small small_mark is = (small, grind (arith, nat_tests))
 
@@ -69,7 +77,8 @@ part_of-IsPart byte next =
 abbrev AreVisible : List ℕ → ℕ → Type 0
 AreVisible bytes size = All IsVisible (take size bytes)
 
-first_visible : (byte : ℕ) (bytes : List ℕ) (size : ℕ) → IsVisible byte → AreVisible bytes size → AreVisible (byte ∷ bytes) (1 + size)
+first_visible : (byte : ℕ) (bytes : List ℕ) (size : ℕ) → IsVisible byte → AreVisible bytes size
+    → AreVisible (byte ∷ bytes) (1 + size)
 first_visible byte bytes size small rest =
     let size_is : 1 + size ≡ suc size = omega arith in
     rw size_is (All-cons IsVisible byte (take size bytes) small rest)
@@ -80,14 +89,16 @@ two_visible :
 two_visible byte next bytes size small also_small rest =
     let size_is : 2 + size ≡ suc (suc size) = omega arith in
     rw size_is
-    (All-cons IsVisible byte (next ∷ take size bytes) small (All-cons IsVisible next (take size bytes) also_small rest))
+    (All-cons IsVisible byte (next ∷ take size bytes) small
+    (All-cons IsVisible next (take size bytes) also_small rest))
 
 -- a string's bytes, from a part on
 size_from-visible :
     (byte next : ℕ) (bytes : List ℕ) (part : Part) (one two : Result ℕ ℕ) → IsPart byte (Some next) part
     → IfOk one (AreVisible (next ∷ bytes)) → IfOk two (AreVisible bytes)
     → IfOk (size_from part one two) (AreVisible (byte ∷ (next ∷ bytes)))
-size_from-visible byte next bytes single (Ok size) two part rest after = first_visible byte (next ∷ bytes) size part rest
+size_from-visible byte next bytes single (Ok size) two part rest after =
+    first_visible byte (next ∷ bytes) size part rest
 size_from-visible byte next bytes single (Err code) two part rest after = tt
 size_from-visible byte next bytes doubled one (Ok size) part rest after =
     two_visible byte next bytes size part.0 part.1 after
@@ -96,7 +107,8 @@ size_from-visible byte next bytes ending one two part rest after = All-nil IsVis
 size_from-visible byte next bytes (wrong code) one two part rest after = tt
 
 -- the last byte of a line may end a string
-last_part-visible : (bytes : List ℕ) (part : Part) (code : ℕ) → IfOk (size_from part (Err code) (Err code)) (AreVisible bytes)
+last_part-visible : (bytes : List ℕ) (part : Part) (code : ℕ)
+    → IfOk (size_from part (Err code) (Err code)) (AreVisible bytes)
 last_part-visible bytes single code = tt
 last_part-visible bytes doubled code = tt
 last_part-visible bytes ending code = All-nil IsVisible
@@ -106,7 +118,8 @@ text_size-visible : (bytes : List ℕ) → IfOk (text_size (quote 34) bytes) (Ar
 text_size-visible [] = tt
 text_size-visible (byte ∷ []) = last_part-visible (byte ∷ []) (part_of (quote 34) byte None) STRING_NOT_ENDED
 text_size-visible (byte ∷ (next ∷ bytes)) =
-    size_from-visible byte next bytes (part_of (quote 34) byte (Some next)) (text_size (quote 34) (next ∷ bytes)) (text_size (quote 34) bytes)
+    size_from-visible byte next bytes (part_of (quote 34) byte (Some next)) (text_size (quote 34) (next ∷ bytes))
+    (text_size (quote 34) bytes)
     (part_of-IsPart byte (Some next)) (text_size-visible (next ∷ bytes)) (text_size-visible bytes)
 
 -- the token of a line
@@ -114,7 +127,8 @@ abbrev IsReadableHere : LineToken → Type 0
 IsReadableHere found = IsReadable found.token
 
 -- a string in double quotes
-pool-readable : (bytes : List ℕ) (size : Result ℕ ℕ) → IfOk size (AreVisible bytes) → IfOk (text_token pool 2 bytes size) IsReadableHere
+pool-readable : (bytes : List ℕ) (size : Result ℕ ℕ) → IfOk size (AreVisible bytes)
+    → IfOk (text_token pool 2 bytes size) IsReadableHere
 pool-readable bytes (Ok size) visible = visible
 pool-readable bytes (Err code) visible = tt
 
@@ -184,7 +198,8 @@ marked_answer first after =
 
 sign_answer-readable : (first : ℕ) (after : List ℕ) → HasReadable (sign_answer first after)
 sign_answer-readable first after =
-    choice HasReadable (first == 125) (Err STRAY_END) (if is_ascii_graphic first then Ok (sign_on first after) else Err BAD_BYTE) (λ stray. tt)
+    choice HasReadable (first == 125) (Err STRAY_END)
+    (if is_ascii_graphic first then Ok (sign_on first after) else Err BAD_BYTE) (λ stray. tt)
     (λ other. choice HasReadable (is_ascii_graphic first) (Ok (sign_on first after)) (Err BAD_BYTE)
     (λ visible. sign_on-readable first after) (λ bad. tt))
 
@@ -194,7 +209,8 @@ marked_answer-readable first after =
     choice HasReadable (first == 39) (string_on quoted 39 after)
     (if first == 34 then string_on pool 34 after else (if first == 64 then coded else sign_answer first after))
     (λ single. quoted-readable after (text_size (quote 39) after))
-    (λ other. choice HasReadable (first == 34) (string_on pool 34 after) (if first == 64 then coded else sign_answer first after)
+    (λ other. choice HasReadable (first == 34) (string_on pool 34 after)
+    (if first == 64 then coded else sign_answer first after)
     (λ double. pool-readable after (text_size (quote 34) after) (text_size-visible after))
     (λ other. choice HasReadable (first == 64) coded (sign_answer first after)
     (λ at. coded_on-readable (code_before after) (drop 1 after)) (λ other. sign_answer-readable first after)))
@@ -203,7 +219,8 @@ token_on-readable : (first : ℕ) (after : List ℕ) → HasReadable (token_on f
 token_on-readable first after =
     let digit_here : LineToken = record { token = digit first; size = 1 } in
     choice HasReadable (is_ascii_alphabetic first) (Ok (word_on first after))
-    (if is_ascii_digit first then Ok digit_here else marked_answer first after) (λ letter. word_on-readable first after)
+    (if is_ascii_digit first then Ok digit_here else marked_answer first after)
+    (λ letter. word_on-readable first after)
     (λ other. choice HasReadable (is_ascii_digit first) (Ok digit_here) (marked_answer first after) (λ is. is)
     (λ other. marked_answer-readable first after))
 
@@ -220,17 +237,22 @@ read_first-readable place bytes text (Err code) readable = tt
 first_token-readable : (end : Place) (text : List PlacedByte) → IfOk (first_token end text) IsReadableRead
 first_token-readable end [] = tt
 first_token-readable end (byte ∷ rest) =
-    read_first-readable byte.place (byte.byte ∷ bytes_of_line rest) (byte ∷ rest) (token_on byte.byte (bytes_of_line rest))
+    read_first-readable byte.place (byte.byte ∷ bytes_of_line rest) (byte ∷ rest)
+    (token_on byte.byte (bytes_of_line rest))
     (token_on-readable byte.byte (bytes_of_line rest))
 
-token_at-readable : (end : Place) (after_digit : Bool) (text : List PlacedByte) → IfOk (token_at end after_digit text) IsReadableRead
+token_at-readable : (end : Place) (after_digit : Bool) (text : List PlacedByte)
+    → IfOk (token_at end after_digit text) IsReadableRead
 token_at-readable end after_digit text =
-    choice (λ answer. IfOk answer IsReadableRead) (after_digit && begins_exponent text) (Err (fault_at REAL_CONSTANT (place_of end text)))
+    choice (λ answer. IfOk answer IsReadableRead) (after_digit && begins_exponent text)
+    (Err (fault_at REAL_CONSTANT (place_of end text)))
     (after_gaps (length text) end text >>= first_token end) (λ real. tt)
-    (λ other. IfOk-step (λ rest. ⊤) IsReadableRead (after_gaps (length text) end text) (first_token end) (any_ok (after_gaps (length text) end text))
+    (λ other. IfOk-step (λ rest. ⊤) IsReadableRead (after_gaps (length text) end text) (first_token end)
+    (any_ok (after_gaps (length text) end text))
     (λ rest some. first_token-readable end rest))
 
-unless_met-readable : (met : Option Fault) (answer : Result Read Fault) → IfOk answer IsReadableRead → IfOk (unless_met met answer) IsReadableRead
+unless_met-readable : (met : Option Fault) (answer : Result Read Fault) → IfOk answer IsReadableRead
+    → IfOk (unless_met met answer) IsReadableRead
 unless_met-readable None answer readable = readable
 unless_met-readable (Some fault) answer readable = tt
 
@@ -238,5 +260,6 @@ pub next_token-readable : (reading : Reading) → IfOk (next_token reading) (λ 
 next_token-readable reading =
     let answer = unless_met reading.fault (token_at reading.end reading.after_digit reading.rest) in
     IfOk-step IsReadableRead (λ read. IsReadable read.0) answer (λ read. Ok (read.token, after_token reading read))
-    (unless_met-readable reading.fault (token_at reading.end reading.after_digit reading.rest) (token_at-readable reading.end reading.after_digit reading.rest))
+    (unless_met-readable reading.fault (token_at reading.end reading.after_digit reading.rest)
+    (token_at-readable reading.end reading.after_digit reading.rest))
     (λ read readable. readable)

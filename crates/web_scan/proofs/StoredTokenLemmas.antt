@@ -1,5 +1,6 @@
 -- What a token of a text stores.
-use Rattle.std.proofs.Common.{◌≡◌, ℕ, pos, ◌<◌, ◌==◌, ◌⊎◌, inl, inr, true, nat_lt, List, [], ◌∷◌, ◌++◌, length, codes, Result, Ok, Err, IfOk, refl, ap, arith, length-append}
+use Rattle.std.proofs.Common.{◌≡◌, ℕ, pos, ◌<◌, ◌==◌, ◌⊎◌, inl, inr, true, nat_lt, List, [], ◌∷◌, ◌++◌, length, codes}
+use Rattle.std.proofs.Common.{Result, Ok, Err, IfOk, refl, ap, arith, length-append}
 use Rattle.std.proofs.lemmas.Bool.Decides.{nat_tests}
 use Rattle.std.proofs.lemmas.Int.{ints}
 use Rattle.wb_base.specs.declared.faults.Fault.{Fault}
@@ -21,7 +22,8 @@ use Rattle.web_pool.specs.Strings.{numbered}
 use Rattle.web_scan.specs.declared.limits.TheConstants.{TOKEN_LIMIT}
 use Rattle.web_scan.specs.Limits.{unless_refused, with_room, stored, string_stored}
 use Rattle.web_scan.specs.Scanned.{Scanned}
-use Rattle.web_scan.specs.Texts.{undoubled, quoted_text, string_value, word_stored, quoted_stored, sign_token, token_stored, is_closing}
+use Rattle.web_scan.specs.Texts.{undoubled, quoted_text, string_value, word_stored, quoted_stored, sign_token}
+use Rattle.web_scan.specs.Texts.{token_stored, is_closing}
 use Rattle.web_scan.specs.Lawful.{IsTokenOf}
 use Rattle.web_scan.proofs.StepLemmas.{IfOk-step, choice}
 use Rattle.web_scan.proofs.ReadTokenLemmas.{IsReadable}
@@ -29,7 +31,8 @@ use Rattle.web_scan.proofs.StringNumberLemmas.{AreFew, IsNumber, numbered-small,
 use Rattle.web_scan.proofs.PlacesLemmas.{AddsOrdinary-none, IsUse, used-use}
 use Rattle.web_scan.proofs.KeepsLemmas.{Grows, IsTokenOf-grows, Keeps, Keeps-none}
 
--- a stored token that stands for one that was read: only `)` closes a parenthesis, and only `#` in a parametric text is
+-- a stored token that stands for one that was read: only `)` closes a parenthesis, and only `#` in a parametric text
+-- is
 -- the parameter
 pub record StandsFor (kind : Class) (token : Token) (web : Scanned) (new : Tok) : Type 0 where
   pub of : IsTokenOf web new
@@ -97,7 +100,8 @@ ready_itself web few = record { keeps = Keeps-none web; few = few; tokens = refl
 stored-itself :
     (kind : Class) (token : Token) (place : Place) (new : Tok) (web : Scanned) → AreFew web.strings
     → StandsFor kind token web new → IfOk (stored place new web) (Stores kind token web)
-stored-itself kind token place new web few stands = stored-new kind token place new web web (ready_itself web few) stands
+stored-itself kind token place new web few stands =
+    stored-new kind token place new web web (ready_itself web few) stands
 
 nothing_stored : (kind : Class) (token : Token) (web : Scanned) → AreFew web.strings → Stores kind token web web
 nothing_stored kind token web few = record { keeps = Keeps-none web; few = few; tokens = inl refl }
@@ -110,14 +114,16 @@ IfOk-unless_refused P which place (Ok value) holds = holds
 IfOk-unless_refused P which place (Err refusal) holds = tt
 
 -- a word
-word-stores : (kind : Class) (place : Place) (bytes : List ℕ) (web : Scanned) → AreFew web.strings → IfOk (word_stored place bytes web) (Stores kind (word bytes) web)
+word-stores : (kind : Class) (place : Place) (bytes : List ℕ) (web : Scanned) → AreFew web.strings
+    → IfOk (word_stored place bytes web) (Stores kind (word bytes) web)
 word-stores kind place bytes web few =
     IfOk-step (IsUse web.names.names) (Stores kind (word bytes) web)
     (unless_refused LIMIT_NAMES place (used web.names.options bytes web.names.names))
     (λ found. stored place (tok.Name found.0) (record web { names = record web.names { names = found.1 } }))
     (IfOk-unless_refused (IsUse web.names.names) LIMIT_NAMES place (used web.names.options bytes web.names.names)
     (used-use web.names.options bytes web.names.names))
-    (λ found is. stored-new kind (word bytes) place (tok.Name found.0) web (record web { names = record web.names { names = found.1 } })
+    (λ found is. stored-new kind (word bytes) place (tok.Name found.0) web
+    (record web { names = record web.names { names = found.1 } })
     (record {
       keeps = record {
         names = is.adds;
@@ -154,14 +160,16 @@ quoted-ready web bytes few =
 one_more : (web : Scanned) (bytes : List ℕ) → length web.quoted < length (web.quoted ++ bytes ∷ [])
 one_more web bytes = omega (arith, length-append web.quoted (bytes ∷ []))
 
-quoted-stores : (kind : Class) (read : List ℕ) (place : Place) (bytes : List ℕ) (web : Scanned) → AreFew web.strings → IfOk (quoted_stored place tok.Quoted bytes web) (Stores kind (quoted read) web)
+quoted-stores : (kind : Class) (read : List ℕ) (place : Place) (bytes : List ℕ) (web : Scanned) → AreFew web.strings
+    → IfOk (quoted_stored place tok.Quoted bytes web) (Stores kind (quoted read) web)
 unfolding with_quoted
 quoted-stores kind read place bytes web few =
     stored-new kind (quoted read) place (tok.Quoted (length web.quoted)) web (with_quoted web bytes)
     (quoted-ready web bytes few)
     (record { of = one_more web bytes; closes = λ other. absurd cc; parameter = λ other. absurd cc })
 
-verbatim-stores : (kind : Class) (read : List ℕ) (place : Place) (bytes : List ℕ) (web : Scanned) → AreFew web.strings → IfOk (quoted_stored place tok.Verbatim bytes web) (Stores kind (verbatim read) web)
+verbatim-stores : (kind : Class) (read : List ℕ) (place : Place) (bytes : List ℕ) (web : Scanned) → AreFew web.strings
+    → IfOk (quoted_stored place tok.Verbatim bytes web) (Stores kind (verbatim read) web)
 unfolding with_quoted
 verbatim-stores kind read place bytes web few =
     stored-new kind (verbatim read) place (tok.Verbatim (length web.quoted)) web (with_quoted web bytes)
@@ -169,7 +177,8 @@ verbatim-stores kind read place bytes web few =
     (record { of = one_more web bytes; closes = λ other. absurd cc; parameter = λ other. absurd cc })
 
 -- nothing is stored past a limit
-room-or_fault : (P : Scanned → Type 0) (web : Scanned) (place : Place) → IfOk (with_room place web >>= (λ web. Err (limit_passed LIMIT_STRINGS place))) P
+room-or_fault : (P : Scanned → Type 0) (web : Scanned) (place : Place)
+    → IfOk (with_room place web >>= (λ web. Err (limit_passed LIMIT_STRINGS place))) P
 room-or_fault P web place =
     choice (λ (answer : Result Scanned Fault). IfOk (answer >>= (λ web. Err (limit_passed LIMIT_STRINGS place))) P)
     (nat_lt (length web.tokens) TOKEN_LIMIT) (Ok web) (Err (limit_passed LIMIT_TOKENS place)) (λ room. tt) (λ full. tt)
@@ -192,7 +201,12 @@ string-stores kind read place web (Ok numbered) is =
       few = is.1;
       tokens = refl;
     })
-    (record { of = (omega (arith, ints), omega (arith, ints)); closes = λ other. absurd cc; parameter = λ other. absurd cc })
+    (record {
+      of = (omega (arith, ints), omega (arith, ints));
+      closes = λ other. absurd cc;
+      parameter =
+          λ other. absurd cc;
+    })
 string-stores kind read place web (Err TooLong) is = tt
 string-stores kind read place web (Err Full) is = room-or_fault (Stores kind (pool read) web) web place
 string-stores kind read place web (Err OutOfMemory) is = room-or_fault (Stores kind (pool read) web) web place
@@ -222,14 +236,21 @@ token_stored-stores kind place (digit byte) web few readable =
 token_stored-stores kind place (word bytes) web few readable = word-stores kind place bytes web few
 token_stored-stores kind place (based value) web few readable =
     stored-itself kind (based value) place (tok.Number (pos value)) web few
-    (record { of = (omega (arith, ints), omega (arith, ints)); closes = λ other. absurd cc; parameter = λ other. absurd cc })
+    (record {
+      of = (omega (arith, ints), omega (arith, ints));
+      closes = λ other. absurd cc;
+      parameter =
+          λ other. absurd cc;
+    })
 token_stored-stores kind place (sign byte) web few readable =
     stored-itself kind (sign byte) place (sign_token kind byte) web few (sign-stands kind web byte)
 token_stored-stores kind place (joined two) web few readable =
     stored-itself kind (joined two) place (tok.Joined two) web few
     (record { of = tt; closes = λ other. absurd cc; parameter = λ other. absurd cc })
-token_stored-stores kind place (quoted bytes) web few readable = quoted-stores kind bytes place (quoted_text bytes) web few
-token_stored-stores kind place (verbatim bytes) web few readable = verbatim-stores kind bytes place (undoubled (codes "@") bytes) web few
+token_stored-stores kind place (quoted bytes) web few readable =
+    quoted-stores kind bytes place (quoted_text bytes) web few
+token_stored-stores kind place (verbatim bytes) web few readable =
+    verbatim-stores kind bytes place (undoubled (codes "@") bytes) web few
 token_stored-stores kind place (pool bytes) web few readable =
     string-stores kind bytes place web (numbered (string_value bytes) web.strings)
     (numbered-small (string_value bytes) web.strings (undoubled-visible (codes "@\"") bytes readable) few)

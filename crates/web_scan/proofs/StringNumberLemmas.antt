@@ -1,5 +1,6 @@
 -- The numbers of strings are small.
-use Rattle.std.proofs.Common.{◌≡◌, ℕ, ◌+◌, ◌≤◌, ◌==◌, ◌&&◌, nat_lt, if◌then◌else◌, List, [], ◌∷◌, ◌++◌, length, All, Option, Some, None, Result, Ok, Err, IfOk, position, refl, arith, length-append}
+use Rattle.std.proofs.Common.{◌≡◌, ℕ, ◌+◌, ◌≤◌, ◌==◌, ◌&&◌, nat_lt, if◌then◌else◌, List, [], ◌∷◌, ◌++◌, length, All}
+use Rattle.std.proofs.Common.{Option, Some, None, Result, Ok, Err, IfOk, position, refl, arith, length-append}
 use Rattle.std.specs.Str.{bytes_eq}
 use Rattle.std.proofs.lemmas.Bool.Decides.{nat_tests}
 use Rattle.std.proofs.lemmas.List.Elements.{All-cons, All-head, All-tail}
@@ -54,7 +55,8 @@ unless_long text strings few =
     (numbered_at (position (bytes_eq text) strings) text strings) (λ long. tt)
     (λ short. numbered_at-small (position (bytes_eq text) strings) text strings refl few)
 
-pub numbered-small : (text : List ℕ) (strings : List (List ℕ)) → All IsVisible text → AreFew strings → HasNumber (numbered text strings)
+pub numbered-small : (text : List ℕ) (strings : List (List ℕ)) → All IsVisible text → AreFew strings
+    → HasNumber (numbered text strings)
 unfolding numbered
 numbered-small [] strings visible few = unless_long [] strings few
 numbered-small (byte ∷ []) strings visible few =
@@ -72,4 +74,5 @@ undoubled-visible doubled (byte ∷ (next ∷ bytes)) visible =
     choice (All IsVisible) (byte == next && is_one_of doubled byte) (byte ∷ undoubled doubled bytes)
     (byte ∷ undoubled doubled (next ∷ bytes))
     (λ twice. All-cons IsVisible byte (undoubled doubled bytes) here (undoubled-visible doubled bytes after))
-    (λ once. All-cons IsVisible byte (undoubled doubled (next ∷ bytes)) here (undoubled-visible doubled (next ∷ bytes) rest))
+    (λ once. All-cons IsVisible byte (undoubled doubled (next ∷ bytes)) here
+    (undoubled-visible doubled (next ∷ bytes) rest))
