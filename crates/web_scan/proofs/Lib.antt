@@ -1,16 +1,23 @@
 mod KeepsLemmas
-mod LawfulSectionTextLemmas
 mod LawfulDefinitionLemmas
 pub mod LawfulLemmas
+mod LawfulSectionTextLemmas
 mod LawfulTextLemmas
 mod NamesLemmas
+pub mod NumericLemmas
 mod OpenTextLemmas
 mod PartsLemmas
 mod PlacesLemmas
-pub mod ReadingLemmas
 mod ReadTokenLemmas
+pub mod ReadingLemmas
+pub mod ResultLemmas
+pub mod ScannerLemmas
+pub mod SectionsLemmas
 mod StepLemmas
+pub mod StepsLemmas
+mod StoredTokenLemmas
 mod StringNumberLemmas
 mod StringsLemmas
-mod StoredTokenLemmas
+pub mod TextsLemmas
 mod UnderLemmas
+pub mod WordValueLemmas

@@ -1,8 +1,10 @@
 //! What a web gives, as far as it was scanned.
-ghost use Rattle.std.specs.Prelude.{◌≡◌, ◌≢◌, ◌+◌, ◌<◌, ◌≤◌, [], ◌∷◌, ◌++◌, Some, None, Ok, Err, IfOk, IfErr, OnOk, length, take, drop, slice_get, pos, All, ℕ};
+ghost use Rattle.std.specs.Prelude.{◌≡◌, ◌≢◌, ◌+◌, ◌<◌, ◌≤◌, ℕ, List, [], ◌∷◌, ◌++◌, Some, None, Ok, Err, IfOk, IfErr, OnOk};
+ghost use Rattle.std.specs.Prelude.{length, take, drop, slice_get, pos, All};
 ghost use Rattle.wb_base.specs.WorkResult.{IfFault};
 ghost use Rattle.wb_base.specs.declared.tokens.Tok.TheVariants as tok;
-ghost use Rattle.web_names.specs.Identifiers.{folded};
+ghost use Rattle.web_names.specs.Identifiers.{folded, id_of};
+ghost use Rattle.web_scan.specs.Numeric.{Term, constant, with_constant, word_value};
 ghost use Rattle.web_pool.specs.Strings.{numbered};
 ghost use Rattle.web_scan.specs.Pieces.{IsPieceWithin};
 ghost use Rattle.web_scan.specs.inner.Under.{pieces_in, with_piece_under, AreWithin};
@@ -212,14 +214,28 @@ impl Parts {
         place: Place,
         defining: u32,
         word: &[u8],
-    ) -> Result<i32, WorkErr> {
-        match self.names.intern(word) {
-            Ok(id) => match self.names.kind(id) {
-                (Class::Numeric, value) if id != defining => Ok(value),
-                _ => Err(Fault::at(BAD_NUMERIC_DEFINITION, place).into()),
-            },
-            Err(NameErr::OutOfMemory) => Err(WorkErr::OutOfMemory),
-            Err(_) => Err(Fault::at(BAD_NUMERIC_DEFINITION, place).into()),
+    ) -> Result<i32, WorkErr>
+        ensures ok { IfOk result (λ value. (terms : List Term) →
+            with_constant place (word_value defining (id_of word.now self.old.names.names) self.old.names.names) terms
+            ≡ Ok (constant value ∷ terms)) }
+        ensures fault { IfFault result (λ fault. (terms : List Term) →
+            with_constant place (word_value defining (id_of word.now self.old.names.names) self.old.names.names) terms
+            ≡ Err fault) }
+        ensures unchanged { OnOk result (self.new ≡ self.old) }
+    {
+        let refusal = WorkErr::Fault(Fault::at(BAD_NUMERIC_DEFINITION, place));
+        let id = match self.names.intern(word) {
+            Ok(id) => id,
+            Err(NameErr::OutOfMemory) => return Err(WorkErr::OutOfMemory),
+            Err(_) => return Err(refusal),
+        };
+        if id == defining {
+            return Err(refusal);
+        }
+        let (class, value) = self.names.kind(id);
+        match class {
+            Class::Numeric => Ok(value),
+            _ => Err(refusal),
         }
     }
 

@@ -1,7 +1,7 @@
 //! A reader within a web, with what the web before it gave.
-ghost use Rattle.std.specs.Prelude.{◌≡◌, Ok, Err, IfOk};
+ghost use Rattle.std.specs.Prelude.{◌≡◌, ◌≢◌, ◌<◌, ◌≤◌, length, Ok, Err, IfOk};
 ghost use Rattle.wb_base.specs.WorkResult.{IfFault};
-ghost use Rattle.web_lex.specs.Token.{token_of};
+ghost use Rattle.web_lex.specs.Token.{token_of, end_of_input};
 ghost use Rattle.web_scan.specs.Scanned.{scanning_of, place_of_last, token_read, code_found};
 ghost use Rattle.web_scan.specs.Sections.{name_read};
 
@@ -52,13 +52,19 @@ impl<'l> Scanner<'l> {
     pub(crate) fn token(&mut self) -> Result<Lexed<'l>, WorkErr>
         ensures ok { IfOk result (λ token. token_read self.old ≡ Ok (token_of token, self.new)) }
         ensures fault { IfFault result (λ fault. token_read self.old ≡ Err fault) }
+        ensures web { self.new.web ≡ self.old.web }
+        ensures shorter { IfOk result (λ token. token_of token ≢ end_of_input
+            → length self.new.reading.rest < length self.old.reading.rest) }
+        ensures not_longer { length self.new.reading.rest ≤ length self.old.reading.rest }
     {
         Ok(self.reader.next()?)
     }
 
     // Passes text outside Pascal, and answers the next code that is not passed.
     pub(crate) fn skip_ahead(&mut self) -> Code
-        ensures { code_found self.old ≡ (result, self.new) }
+        ensures found { code_found self.old ≡ (result, self.new) }
+        ensures shorter { result ≢ Code.End → length self.new.reading.rest < length self.old.reading.rest }
+        ensures not_longer { length self.new.reading.rest ≤ length self.old.reading.rest }
     {
         self.reader.skip_ahead()
     }
@@ -67,6 +73,8 @@ impl<'l> Scanner<'l> {
     pub(crate) fn section_name(&mut self) -> Result<u32, WorkErr>
         ensures ok { IfOk result (λ found. name_read self.old ≡ Ok (found, self.new)) }
         ensures fault { IfFault result (λ fault. name_read self.old ≡ Err fault) }
+        ensures tokens { self.new.web.tokens ≡ self.old.web.tokens }
+        ensures not_longer { length self.new.reading.rest ≤ length self.old.reading.rest }
     {
         let name = self.reader.section_name(self.alloc)?;
         let place = self.reader.place();

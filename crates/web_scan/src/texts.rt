@@ -25,7 +25,7 @@ pub(crate) struct OpenText {
 
 // The code by which a token ends the right side of a definition, if it does.
 pub(crate) fn ending_code(token: Lexed<'_>) -> Option<Code>
-    ensures { result ≡ ending_code (token_of token) }
+    ensures { result ≡ ending_code (token_of token.entry) }
 {
     match token {
         Lexed::End => Some(Code::End),
@@ -62,7 +62,8 @@ impl<'l> Scanner<'l> {
         ensures fault { IfFault result (λ fault. (most : ℕ) → length self.old.reading.rest < most
             → macro_text most text.old.class text.old.first self.old ≡ Err fault) }
         ensures first { text.new.first ≡ text.old.first }
-        ensures within { text.new.first ≤ length self.new.web.tokens }
+        ensures within { OnOk result (text.new.first ≤ length self.new.web.tokens) }
+        ensures not_longer { OnOk result (length self.new.reading.rest ≤ length self.old.reading.rest) }
     {
         loop {
             let token = self.token()?;
@@ -95,12 +96,11 @@ impl<'l> Scanner<'l> {
         token: Lexed<'l>,
     ) -> Result<(), WorkErr>
         requires { IsOpen text.old self.old.web }
-        ensures ok { OnOk result (text_token text.old.class text.old.first (token_of token) self.old ≡ Ok self.new) }
-        ensures fault { IfFault result (λ fault. text_token text.old.class text.old.first (token_of token) self.old ≡ Err fault) }
+        ensures ok { OnOk result (text_token text.old.class text.old.first (token_of token.entry) self.old ≡ Ok self.new) }
+        ensures fault { IfFault result (λ fault. text_token text.old.class text.old.first (token_of token.entry) self.old ≡ Err fault) }
         ensures open { OnOk result (IsOpen text.new self.new.web) }
         ensures class { text.new.class ≡ text.old.class }
         ensures first { text.new.first ≡ text.old.first }
-        ensures within { text.new.first ≤ length self.new.web.tokens }
         ensures reading { self.new.reading ≡ self.old.reading }
     {
         match token {
@@ -122,8 +122,8 @@ impl<'l> Scanner<'l> {
 
     // Stores a token of a text.
     fn store_token(&mut self, class: Class, token: Lexed<'l>) -> Result<(), WorkErr>
-        ensures ok { OnOk result (token_stored class (place_of_last self.old) (token_of token) self.old.web ≡ Ok self.new.web) }
-        ensures fault { IfFault result (λ fault. token_stored class (place_of_last self.old) (token_of token) self.old.web ≡ Err fault) }
+        ensures ok { OnOk result (token_stored class (place_of_last self.old) (token_of token.entry) self.old.web ≡ Ok self.new.web) }
+        ensures fault { IfFault result (λ fault. token_stored class (place_of_last self.old) (token_of token.entry) self.old.web ≡ Err fault) }
         ensures grows { length self.old.web.tokens ≤ length self.new.web.tokens }
         ensures reading { self.new.reading ≡ self.old.reading }
     {
