@@ -29,7 +29,7 @@ use Rattle.web_scan.specs.Numeric.{with_token, word_value, right_side_from, righ
 use Rattle.web_scan.specs.Definitions.{is_sign, is_same, expected, defined_word, parameter_read, class_from}
 use Rattle.web_scan.specs.Definitions.{class_read, name_defined, value_given, right_side_read, definition}
 use Rattle.web_scan.specs.Lawful.{IsTextOf, IsPascalTextOf, HasNoParameter, IsValueOf, IsLawful}
-use Rattle.web_scan.proofs.StepLemmas.{IfOk-step, IfOk-at, any_ok, choice}
+use Rattle.web_scan.proofs.AnswerLemmas.{IfOk-step, IfOk-at, any_ok, choice}
 use Rattle.web_scan.proofs.ReadTokenLemmas.{IsReadable}
 use Rattle.web_scan.proofs.StringNumberLemmas.{AreFew, IsNumber, numbered-small, undoubled-visible}
 use Rattle.web_scan.proofs.NamesLemmas.{length-with_value}

@@ -23,7 +23,7 @@ use Rattle.web_scan.specs.Sections.{name_read, section_text, with_pascal_text, p
 use Rattle.web_scan.specs.Sections.{head_read, named_text, section_parts, section, sections}
 use Rattle.web_scan.specs.Scan.{scan_of}
 use Rattle.web_scan.specs.Lawful.{IsTextOf, IsPascalTextOf, IsValueOf, IsLawful}
-use Rattle.web_scan.proofs.StepLemmas.{IfOk-step, IfOk-at, IfOk-weaker, choice}
+use Rattle.web_scan.proofs.AnswerLemmas.{IfOk-step, IfOk-at, IfOk-weaker, choice}
 use Rattle.web_scan.proofs.PlacesLemmas.{AddsOrdinary-none}
 use Rattle.web_scan.proofs.KeepsLemmas.{Grows, Keeps, Keeps-none, IsTextOf-grows, texts-grow, pieces-grow, named-grow}
 use Rattle.web_scan.proofs.KeepsLemmas.{IsValueOf-texts, IsLawful-keeps}

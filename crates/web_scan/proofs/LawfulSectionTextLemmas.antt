@@ -17,7 +17,7 @@ use Rattle.web_scan.specs.Limits.{unless_refused, stored}
 use Rattle.web_scan.specs.Scanned.{Scanned, Scanning, place_of_last, token_read}
 use Rattle.web_scan.specs.Texts.{TextRead, text_token}
 use Rattle.web_scan.specs.Sections.{name_found, name_read, section_used, section_text_from, section_text}
-use Rattle.web_scan.proofs.StepLemmas.{IfOk-step, any_ok, choice}
+use Rattle.web_scan.proofs.AnswerLemmas.{IfOk-step, any_ok, choice}
 use Rattle.web_scan.proofs.ReadTokenLemmas.{IsReadable}
 use Rattle.web_scan.proofs.StringNumberLemmas.{AreFew}
 use Rattle.web_scan.proofs.PlacesLemmas.{AddsOrdinary-none, IsWhole, whole_name-within, prefix_name-within}

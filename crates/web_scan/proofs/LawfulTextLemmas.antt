@@ -16,7 +16,7 @@ use Rattle.web_scan.specs.Scanned.{Scanned, Scanning, place_of_last, token_read}
 use Rattle.web_scan.specs.Texts.{token_stored, still_open, is_closing, stored_since, text_token, ended_text}
 use Rattle.web_scan.specs.Texts.{ending_code, TextRead, macro_text_from, macro_text}
 use Rattle.web_scan.specs.Lawful.{IsTextOf, HasNoParameter}
-use Rattle.web_scan.proofs.StepLemmas.{IfOk-step, choice}
+use Rattle.web_scan.proofs.AnswerLemmas.{IfOk-step, choice}
 use Rattle.web_scan.proofs.ReadTokenLemmas.{IsReadable, next_token-readable}
 use Rattle.web_scan.proofs.StringNumberLemmas.{AreFew}
 use Rattle.web_scan.proofs.KeepsLemmas.{Keeps, Keeps-more}

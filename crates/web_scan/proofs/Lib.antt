@@ -1,3 +1,4 @@
+mod AnswerLemmas
 mod KeepsLemmas
 mod LawfulDefinitionLemmas
 pub mod LawfulLemmas
@@ -8,12 +9,12 @@ pub mod NumericLemmas
 mod OpenTextLemmas
 mod PartsLemmas
 mod PlacesLemmas
-mod ReadTokenLemmas
 pub mod ReadingLemmas
+mod ReadTokenLemmas
 pub mod ResultLemmas
+mod ScanLemmas
 pub mod ScannerLemmas
 pub mod SectionsLemmas
-mod StepLemmas
 pub mod StepsLemmas
 mod StoredTokenLemmas
 mod StringNumberLemmas

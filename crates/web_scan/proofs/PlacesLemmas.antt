@@ -17,7 +17,7 @@ use Rattle.web_names.specs.Identifiers.{with_name, used, used_at, defined, defin
 use Rattle.web_names.specs.Identifiers.{with_class, with_value, name_limit}
 use Rattle.web_names.specs.SectionNames.{is_prefix_of, is_incompatible, section_limit, whole_at, whole_name, the_only}
 use Rattle.web_names.specs.SectionNames.{prefix_name}
-use Rattle.web_scan.proofs.StepLemmas.{choice}
+use Rattle.web_scan.proofs.AnswerLemmas.{choice}
 use Rattle.web_scan.proofs.NamesLemmas.{id_of-among, length-changed_at}
 
 -- only ordinary names come after these

@@ -24,7 +24,7 @@ use Rattle.web_lex.specs.Token.{pair_table, word_on, is_octal_digit, is_hex_digi
 use Rattle.web_lex.specs.Gaps.{after_gaps}
 use Rattle.web_lex.specs.Reading.{Read, Reading, read_first, first_token, token_at, begins_exponent, next_token}
 use Rattle.web_lex.specs.Reading.{unless_met, after_token}
-use Rattle.web_scan.proofs.StepLemmas.{IfOk-step, any_ok, choice}
+use Rattle.web_scan.proofs.AnswerLemmas.{IfOk-step, any_ok, choice}
 
 -- the byte is at most the last that may stand in a string
 abbrev pub IsVisible : ℕ → Type 0

@@ -25,7 +25,7 @@ use Rattle.web_scan.specs.Scanned.{Scanned}
 use Rattle.web_scan.specs.Texts.{undoubled, quoted_text, string_value, word_stored, quoted_stored, sign_token}
 use Rattle.web_scan.specs.Texts.{token_stored, is_closing}
 use Rattle.web_scan.specs.Lawful.{IsTokenOf}
-use Rattle.web_scan.proofs.StepLemmas.{IfOk-step, choice}
+use Rattle.web_scan.proofs.AnswerLemmas.{IfOk-step, choice}
 use Rattle.web_scan.proofs.ReadTokenLemmas.{IsReadable}
 use Rattle.web_scan.proofs.StringNumberLemmas.{AreFew, IsNumber, numbered-small, undoubled-visible}
 use Rattle.web_scan.proofs.PlacesLemmas.{AddsOrdinary-none, IsUse, used-use}

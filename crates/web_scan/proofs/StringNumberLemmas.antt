@@ -10,7 +10,7 @@ use Rattle.web_pool.specs.declared.refusals.PoolErr.{PoolErr}
 use Rattle.web_pool.specs.declared.refusals.PoolErr.TheVariants.{TooLong, Full}
 use Rattle.web_pool.specs.Strings.{numbered, numbered_at}
 use Rattle.web_scan.specs.Texts.{undoubled}
-use Rattle.web_scan.proofs.StepLemmas.{choice}
+use Rattle.web_scan.proofs.AnswerLemmas.{choice}
 use Rattle.web_scan.proofs.ReadTokenLemmas.{IsVisible}
 
 -- the most bytes of a string of the pool, its first number, and the last
