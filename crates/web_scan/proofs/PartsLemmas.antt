@@ -1,5 +1,6 @@
 -- The parts of a web after one more token, and after the text of one more section.
-use Rattle.std.proofs.Common.{◌≡◌, ℕ, ◌+◌, ◌-◌, ◌≤◌, List, [], ◌∷◌, ◌++◌, length, take, drop, map, All, Vec, Some, refl, ap, ◌∙◌, arith, length-drop}
+use Rattle.std.proofs.Common.{◌≡◌, ℕ, ◌+◌, ◌-◌, ◌≤◌, List, [], ◌∷◌, ◌++◌, length, take, drop, map, All, Vec, Some}
+use Rattle.std.proofs.Common.{refl, ap, ◌∙◌, arith, length-drop}
 use Rattle.std.proofs.lemmas.List.{drop-append-le, take-append-le, take_all}
 use Rattle.std.proofs.lemmas.List.Elements.{All-head, All-tail}
 use Rattle.wb_base.specs.declared.tokens.Tok.{Tok}
@@ -24,21 +25,30 @@ range-push first count xs x within =
     ap (take count) (drop-append-le first xs (x ∷ []) begins) ∙ take-append-le count (drop first xs) (x ∷ []) rest
 
 -- the texts of macros
-pub texts-push : (spans : List Span) (tokens : List Tok) (token : Tok) → All (IsSpanWithin (length tokens)) spans → map (text_at (tokens ++ token ∷ [])) spans ≡ map (text_at tokens) spans
+pub texts-push : (spans : List Span) (tokens : List Tok) (token : Tok) → All (IsSpanWithin (length tokens)) spans
+    → map (text_at (tokens ++ token ∷ [])) spans ≡ map (text_at tokens) spans
 texts-push [] tokens token within = refl
 texts-push (span ∷ spans) tokens token within =
-    let here : text_at (tokens ++ token ∷ []) span ≡ text_at tokens span = range-push span.first span.count tokens token (All-head (IsSpanWithin (length tokens)) span spans within) in
+    let here : text_at (tokens ++ token ∷ []) span ≡ text_at tokens span = range-push span.first span.count tokens
+    token (All-head (IsSpanWithin (length tokens)) span spans within) in
     let others = texts-push spans tokens token (All-tail (IsSpanWithin (length tokens)) span spans within) in
-    ap (λ text. text ∷ map (text_at (tokens ++ token ∷ [])) spans) here ∙ ap (λ texts. text_at tokens span ∷ texts) others
+    ap (λ text. text ∷ map (text_at (tokens ++ token ∷ [])) spans) here
+    ∙ ap (λ texts. text_at tokens span ∷ texts) others
 
 -- the texts of sections
-pub pascal_texts-push : (pieces : List Piece) (tokens : List Tok) (token : Tok) → All (IsPieceWithin (length tokens)) pieces → pascal_texts_at (tokens ++ token ∷ []) pieces ≡ pascal_texts_at tokens pieces
+pub pascal_texts-push : (pieces : List Piece) (tokens : List Tok) (token : Tok)
+    → All (IsPieceWithin (length tokens)) pieces
+    → pascal_texts_at (tokens ++ token ∷ []) pieces ≡ pascal_texts_at tokens pieces
 pascal_texts-push [] tokens token within = refl
 pascal_texts-push (piece ∷ pieces) tokens token within =
-    let text = range-push piece.first piece.count tokens token (All-head (IsPieceWithin (length tokens)) piece pieces within) in
-    let here : pascal_text_at (tokens ++ token ∷ []) piece ≡ pascal_text_at tokens piece = ap (λ (text : List Tok). let made : PascalText = record { number = piece.number; text = text } in made) text in
-    let others = pascal_texts-push pieces tokens token (All-tail (IsPieceWithin (length tokens)) piece pieces within) in
-    ap (λ text. text ∷ pascal_texts_at (tokens ++ token ∷ []) pieces) here ∙ ap (λ texts. pascal_text_at tokens piece ∷ texts) others
+    let text = range-push piece.first piece.count tokens token
+    (All-head (IsPieceWithin (length tokens)) piece pieces within) in
+    let here : pascal_text_at (tokens ++ token ∷ []) piece ≡ pascal_text_at tokens piece = ap
+    (λ (text : List Tok). let made : PascalText = record { number = piece.number; text = text } in made) text in
+    let others = pascal_texts-push pieces tokens token
+    (All-tail (IsPieceWithin (length tokens)) piece pieces within) in
+    ap (λ text. text ∷ pascal_texts_at (tokens ++ token ∷ []) pieces) here
+    ∙ ap (λ texts. pascal_text_at tokens piece ∷ texts) others
 
 -- the texts under names of sections
 pub named-push :
@@ -70,8 +80,10 @@ with_texts parts tokens texts unnamed named = record {
 
 -- the parts of a web with one more token
 pub scanned_in-push :
-    (parts : Inside) (more : Vec Tok Global) (token : Tok) → IsKept parts → more.items ≡ parts.tokens.items ++ token ∷ []
-    → scanned_in (record parts { tokens = more }) ≡ record (scanned_in parts) { tokens = parts.tokens.items ++ token ∷ [] }
+    (parts : Inside) (more : Vec Tok Global) (token : Tok) → IsKept parts
+    → more.items ≡ parts.tokens.items ++ token ∷ []
+    → scanned_in (record parts { tokens = more }) ≡ record
+    (scanned_in parts) { tokens = parts.tokens.items ++ token ∷ [] }
 unfolding with_texts
 scanned_in-push parts more token kept is =
     let old = parts.tokens.items in
@@ -86,9 +98,13 @@ scanned_in-push parts more token kept is =
     ≡ map (λ pieces. pascal_texts_at old pieces.items) parts.named.items =
     ap (λ tokens. map (λ pieces. pascal_texts_at tokens pieces.items) parts.named.items) is
     ∙ named-push parts.named.items old token kept.named in
-    ap (λ tokens. with_texts parts tokens (map (text_at more.items) parts.texts.items) (pascal_texts_at more.items parts.unnamed.items) (map (λ pieces. pascal_texts_at more.items pieces.items) parts.named.items)) is
-    ∙ ap (λ texts. with_texts parts new texts (pascal_texts_at more.items parts.unnamed.items) (map (λ pieces. pascal_texts_at more.items pieces.items) parts.named.items)) texts
-    ∙ ap (λ texts. with_texts parts new (map (text_at old) parts.texts.items) texts (map (λ pieces. pascal_texts_at more.items pieces.items) parts.named.items)) unnamed
+    ap (λ tokens. with_texts parts tokens (map (text_at more.items) parts.texts.items)
+    (pascal_texts_at more.items parts.unnamed.items)
+    (map (λ pieces. pascal_texts_at more.items pieces.items) parts.named.items)) is
+    ∙ ap (λ texts. with_texts parts new texts (pascal_texts_at more.items parts.unnamed.items)
+    (map (λ pieces. pascal_texts_at more.items pieces.items) parts.named.items)) texts
+    ∙ ap (λ texts. with_texts parts new (map (text_at old) parts.texts.items) texts
+    (map (λ pieces. pascal_texts_at more.items pieces.items) parts.named.items)) unnamed
     ∙ ap (with_texts parts new (map (text_at old) parts.texts.items) (pascal_texts_at old parts.unnamed.items)) named
 
 -- the range of the tokens after the first ones

@@ -1,5 +1,7 @@
 -- What holds of what the readers of a lawful web answer.
-use Rattle.std.proofs.Common.{◌≡◌, ℕ, zero, suc, ℤ, pos, negsuc, nat_abs, ◌<◌, ◌≤◌, ◌≤ℤ◌, List, [], ◌∷◌, length, map, All, IsTrue, IsSome, IsSomeAnd, Option, Some, None, slice_get, refl, sym, ap, ◌∙◌, subst, arith, rules}
+use Rattle.std.proofs.Common.{◌≡◌, ℕ, zero, suc, ℤ, pos, negsuc, nat_abs, ◌<◌, ◌≤◌, ◌≤ℤ◌, List, [], ◌∷◌, length, map}
+use Rattle.std.proofs.Common.{All, IsTrue, IsSome, IsSomeAnd, Option, Some, None, slice_get, refl, sym, ap, ◌∙◌, subst}
+use Rattle.std.proofs.Common.{arith, rules}
 use Rattle.std.proofs.lemmas.Int.{ints}
 use Rattle.std.specs.Char.{is_ascii_digit}
 use Rattle.std.proofs.lemmas.List.Elements.{All-get_or, All-head, All-tail, All-nil, All-cons, All-same}
@@ -17,7 +19,8 @@ use Rattle.web_scan.specs.Pieces.{pascal_text_at, pascal_texts_at, text_by, text
 use Rattle.web_scan.specs.Lawful.{IsTextOf, IsPascalTextOf, HasNoParameter, IsValueOf, IsLawful}
 
 -- what holds of each element holds of the one at a place
-pub All-slice_get : {X : Type 0} (P : X → Type 0) (xs : List X) (place : ℕ) (x : X) → All P xs → slice_get xs place ≡ Some x → P x
+pub All-slice_get : {X : Type 0} (P : X → Type 0) (xs : List X) (place : ℕ) (x : X) → All P xs
+    → slice_get xs place ≡ Some x → P x
 All-slice_get P xs place x all at =
     subst P (get_or_from_slice_get xs place x x at) (All-get_or P xs place x (slice_get_within xs place x at) all)
 
@@ -98,19 +101,23 @@ pub HasNoParameter-simple :
 HasNoParameter-simple web id value text lawful at is =
     let kept = IsValueOf-kind web id class.Simple value lawful at in
     let text_is : slice_get web.texts kept.0 ≡ Some text =
-    sym (text_of_macro-kind web id class.Simple value at ∙ ap (λ value. slice_get web.texts (nat_abs value)) kept.1) ∙ is in
+    sym (text_of_macro-kind web id class.Simple value at ∙ ap (λ value. slice_get web.texts (nat_abs value)) kept.1)
+    ∙ is in
     of_value (slice_get web.texts kept.0) HasNoParameter text kept.2 text_is
 
 -- the text of a macro is a text of the web
 IsTextOf-text_by :
     (web : Scanned) (kind : Class) (value : ℤ) (text : List Tok) → IsLawful web → text_by web kind value ≡ Some text
     → IsTextOf web text
-IsTextOf-text_by web class.Simple value text lawful is = All-slice_get (IsTextOf web) web.texts (nat_abs value) text lawful.texts is
-IsTextOf-text_by web class.Parametric value text lawful is = All-slice_get (IsTextOf web) web.texts (nat_abs value) text lawful.texts is
+IsTextOf-text_by web class.Simple value text lawful is =
+    All-slice_get (IsTextOf web) web.texts (nat_abs value) text lawful.texts is
+IsTextOf-text_by web class.Parametric value text lawful is =
+    All-slice_get (IsTextOf web) web.texts (nat_abs value) text lawful.texts is
 IsTextOf-text_by web class.Ordinary value text lawful is = absurd cc
 IsTextOf-text_by web class.Numeric value text lawful is = absurd cc
 
-pub IsTextOf-text_of_macro : (web : Scanned) (id : ℕ) (text : List Tok) → IsLawful web → text_of_macro web id ≡ Some text → IsTextOf web text
+pub IsTextOf-text_of_macro : (web : Scanned) (id : ℕ) (text : List Tok) → IsLawful web
+    → text_of_macro web id ≡ Some text → IsTextOf web text
 IsTextOf-text_of_macro web id text lawful is =
     elim (slice_get web.names.names id) as (λ name. text_of_name web name ≡ Some text → IsTextOf web text) [
       | None ↦ λ is. absurd cc
@@ -126,7 +133,8 @@ under-named web zero (texts ∷ named) all = All-head (All (IsPascalTextOf web))
 under-named web (suc section) (texts ∷ named) all =
     under-named web section named (All-tail (All (IsPascalTextOf web)) texts named all)
 
-pub IsPascalTextOf-under : (web : Scanned) (section : ℕ) → IsLawful web → All (IsPascalTextOf web) (texts_under section web.named)
+pub IsPascalTextOf-under : (web : Scanned) (section : ℕ) → IsLawful web
+    → All (IsPascalTextOf web) (texts_under section web.named)
 IsPascalTextOf-under web section lawful = under-named web section web.named lawful.named
 
 of_map : {X Y : Type 0} (P : Y → Type 0) (f : X → Y) (xs : List X) → All P (map f xs) → All (λ x. P (f x)) xs
@@ -158,7 +166,8 @@ high-digit byte is = search rules
 -- a word was cut
 pub length-printed_form : (options : Options) (word : List ℕ) → length (printed_form options word) ≤ printed_limit
 unfolding printed_form
-length-printed_form options word = omega (arith, length-take printed_limit (spelled options.underline options.case word))
+length-printed_form options word =
+    omega (arith, length-take printed_limit (spelled options.underline options.case word))
 
 pub length-printed :
     (options : Options) (names : List Name) (id : ℕ) (printed : List ℕ)

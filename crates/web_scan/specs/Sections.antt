@@ -18,7 +18,7 @@ use Rattle.web_names.specs.SectionNames.{whole_name, prefix_name}
 use Rattle.web_scan.specs.Definitions.{is_sign, is_same, definition}
 use Rattle.web_scan.specs.Limits.{unless_refused, stored, section_begun}
 use Rattle.web_scan.specs.Scanned.{Scanned, Scanning, with_text_under, place_of_last, token_read, code_found, most_tokens}
-use Rattle.web_scan.specs.Texts.{TextRead, ended_text, text_token, stored_since}
+use Rattle.web_scan.specs.Texts.{TextRead, ended_text, text_token}
 
 -- a prefix stands for a name that was seen before it; a whole name is seen now. The place of the name, and the web
 -- after it
@@ -63,7 +63,7 @@ section_text_from first other scanning further = text_token class.Ordinary first
 
 -- the text of a section, which began after so many tokens and has no more than this number of them from here on
 unfoldable pub section_text : ℕ → ℕ → Scanning → TextRead
-section_text zero first scanning = Ok (stored_since first scanning.web, code.End, scanning)
+section_text zero first scanning = ended_text first scanning >>= (λ text. Ok (text, code.End, scanning))
 section_text (suc most) first scanning =
     token_read scanning >>= (λ read. section_text_from first read.0 read.1 (section_text most first))
 

@@ -4,6 +4,7 @@ ghost use Rattle.wb_base.specs.WorkResult.{IfFault};
 ghost use Rattle.web_lex.specs.Token.{token_of, end_of_input};
 ghost use Rattle.web_scan.specs.Scanned.{scanning_of, place_of_last, token_read, code_found};
 ghost use Rattle.web_scan.specs.Sections.{name_read};
+ghost use Rattle.web_scan.specs.Lawful.{IsLawful};
 
 use crate::parts::Parts;
 use crate::web::Web;
@@ -82,7 +83,10 @@ impl<'l> Scanner<'l> {
     }
 
     // The web, at its end.
-    pub(crate) fn into_web(self) -> Web {
+    pub(crate) fn into_web(self) -> Web
+        requires { IsLawful self.web }
+        ensures { result ≡ self.entry.web }
+    {
         Web::new(self.parts)
     }
 }
