@@ -1,5 +1,6 @@
 -- Sections and their parts, a code at a time.
-use Rattle.std.proofs.Common.{◌≡◌, ◌≢◌, ℕ, zero, suc, ◌+◌, ◌<◌, ◌≤◌, length, Option, Some, None, Result, Ok, Err, refl, sym, ap, ◌∙◌, arith}
+use Rattle.std.proofs.Common.{◌≡◌, ◌≢◌, ℕ, zero, suc, ◌+◌, ◌<◌, ◌≤◌, length, Option, Some, None, Result, Ok, Err, refl}
+use Rattle.std.proofs.Common.{sym, ap, ◌∙◌, arith}
 use Rattle.wb_base.specs.declared.faults.Fault.{Fault}
 use Rattle.wb_base.specs.declared.places.Place.{Place}
 use Rattle.wb_base.specs.Steps.{◌>>=◌}
@@ -34,7 +35,8 @@ codes_left-is code.End bytes other = absurd (other refl)
 codes_left-is c bytes other = refl
 
 -- a code that is the end or shortens the rest
-pub codes_left-found : (c : Code) (bytes before : ℕ) → (c ≢ code.End → bytes < before) → codes_left c bytes < before + 1
+pub codes_left-found : (c : Code) (bytes before : ℕ) → (c ≢ code.End → bytes < before)
+    → codes_left c bytes < before + 1
 codes_left-found code.End bytes before shorter = omega arith
 codes_left-found code.Ignore bytes before shorter = let less : bytes < before = shorter (λ e. cc) in omega arith
 codes_left-found code.At bytes before shorter = let less : bytes < before = shorter (λ e. cc) in omega arith
@@ -97,7 +99,8 @@ pub parts-definition :
     → length next.reading.rest < length now.reading.rest → StillReads at_code_left parts_read start (found, next)
 unfolding section_parts
 parts-definition start c now next found still defines is shorter =
-    codes_more parts_read start (c, now) (found, next) still (λ end. let wrong = sym defines ∙ end in absurd cc) (λ other. shorter)
+    codes_more parts_read start (c, now) (found, next) still (λ end. let wrong = sym defines ∙ end in absurd cc)
+    (λ other. shorter)
     (λ left. ap (λ c. section_parts (suc left) c now) defines
     ∙ ap (λ (r : Result (Code × Scanning) Fault). r >>= parts_from left) is)
 
@@ -201,11 +204,13 @@ pub section-is :
 unfolding section
 section-is now next reading parts web place found result view same begins is not_longer reads =
     let begun : Scanned → Result (Code × Scanning) Fault =
-    λ web. section_parts (most_tokens now) (code_found (record now { web = web })).0 (code_found (record now { web = web })).1 in
+    λ web. section_parts (most_tokens now) (code_found (record now { web = web })).0
+    (code_found (record now { web = web })).1 in
     ap (λ (place : Place). section_begun place now.web >>= begun) (sym same)
     ∙ ap (λ (now : Scanning). section_begun place now.web >>= begun) (sym view)
     ∙ ap (λ (r : Result Scanned Fault). r >>= begun) begins
-    ∙ ap (λ (scanning : Scanning). parts_from (most_tokens now) (code_found (record scanning { web = web }))) (sym view)
+    ∙ ap (λ (scanning : Scanning). parts_from (most_tokens now) (code_found (record scanning { web = web })))
+    (sym view)
     ∙ ap (parts_from (most_tokens now)) is
     ∙ reads (most_tokens now) (omega arith)
 
@@ -216,7 +221,8 @@ pub section-refused :
 unfolding section
 section-refused now reading parts place fault view same refuses =
     let begun : Scanned → Result (Code × Scanning) Fault =
-    λ web. section_parts (most_tokens now) (code_found (record now { web = web })).0 (code_found (record now { web = web })).1 in
+    λ web. section_parts (most_tokens now) (code_found (record now { web = web })).0
+    (code_found (record now { web = web })).1 in
     ap (λ (place : Place). section_begun place now.web >>= begun) (sym same)
     ∙ ap (λ (now : Scanning). section_begun place now.web >>= begun) (sym view)
     ∙ ap (λ (r : Result Scanned Fault). r >>= begun) refuses
@@ -235,7 +241,8 @@ pub sections-section :
     → StillReads at_code_left sections_read start (found, next)
 unfolding sections
 sections-section start c now next found still begins is shorter =
-    codes_more sections_read start (c, now) (found, next) still (λ end. let wrong = sym begins ∙ end in absurd cc) shorter
+    codes_more sections_read start (c, now) (found, next) still
+    (λ end. let wrong = sym begins ∙ end in absurd cc) shorter
     (λ left. ap (λ c. sections (suc left) c now) begins
     ∙ ap (λ (r : Result (Code × Scanning) Fault). r >>= sections_from left) is)
 

@@ -1,6 +1,5 @@
 -- Definitions, a step at a time.
 use Rattle.std.proofs.Common.{◌≡◌, ◌≢◌, ℕ, List, Bor, Result, Ok, Err, refl, sym, ap, ◌∙◌}
-
 use Rattle.wb_base.specs.declared.faults.Fault.{Fault}
 use Rattle.wb_base.specs.declared.faults.TheConstants.{BAD_DEFINITION}
 use Rattle.wb_base.specs.declared.places.Place.{Place}
@@ -12,7 +11,8 @@ use Rattle.web_lex.specs.declared.tokens.Lexed.{Lexed}
 use Rattle.web_lex.specs.declared.tokens.Lexed.TheVariants as lexed
 use Rattle.web_lex.specs.Token.{Token, word, token_of}
 use Rattle.web_names.specs.declared.classes.Class.{Class}
-use Rattle.web_scan.specs.Definitions.{defined_word, class_read, macro_defined, name_defined, right_side_read, definition}
+use Rattle.web_scan.specs.Definitions.{defined_word, class_read, macro_defined, name_defined, right_side_read}
+use Rattle.web_scan.specs.Definitions.{definition}
 use Rattle.web_scan.specs.Scanned.{Scanned, Scanning, place_of_last, token_read}
 use Rattle.web_scan.proofs.ScannerLemmas.{scanning_with}
 
@@ -57,7 +57,8 @@ definition-named now named token bytes is name =
 
 pub definition-unsigned :
     (now named : Scanning) (token : Token) (bytes : List ℕ) (fault : Fault)
-    → token_read now ≡ Ok (token, named) → token ≡ word bytes → class_read named ≡ Err fault → definition now ≡ Err fault
+    → token_read now ≡ Ok (token, named) → token ≡ word bytes → class_read named ≡ Err fault
+    → definition now ≡ Err fault
 definition-unsigned now named token bytes fault is name refuses =
     definition-named now named token bytes is name
     ∙ ap (λ (r : Result (Class × Scanning) Fault). r >>= name_from (place_of_last named) bytes) refuses
@@ -77,14 +78,16 @@ begun_by signed found = Ok (found.0, record signed { web = found.1 })
 name_defined-is :
     (signed : Scanning) (reading : Reading) (parts : Scanned) (place : Place) (bytes : List ℕ) (kind : Class)
     → scanning_with reading parts ≡ signed → place ≡ place_of_last signed
-    → name_defined bytes kind signed ≡ (macro_defined place bytes kind parts >>= begun_by (scanning_with reading parts))
+    → name_defined bytes kind signed ≡ (macro_defined place bytes kind parts >>= begun_by
+    (scanning_with reading parts))
 name_defined-is signed reading parts place bytes kind view same =
     ap (name_defined bytes kind) (sym view)
     ∙ ap (λ place. macro_defined place bytes kind parts >>= begun_by (scanning_with reading parts))
     (sym (same ∙ ap place_of_last (sym view)))
 
 pub definition-refused :
-    (now named signed : Scanning) (reading : Reading) (parts : Scanned) (place : Place) (token : Token) (bytes : List ℕ)
+    (now named signed : Scanning) (reading : Reading) (parts : Scanned) (place : Place) (token : Token)
+    (bytes : List ℕ)
     (kind : Class) (fault : Fault)
     → token_read now ≡ Ok (token, named) → token ≡ word bytes → class_read named ≡ Ok (kind, signed)
     → scanning_with reading parts ≡ signed → place ≡ place_of_last signed
@@ -96,13 +99,15 @@ definition-refused now named signed reading parts place token bytes kind fault i
     ∙ ap (λ (r : Result (ℕ × Scanned) Fault). r >>= begun_by (scanning_with reading parts)) refuses)
 
 pub definition-is :
-    (now named signed : Scanning) (reading : Reading) (parts web : Scanned) (at_name place : Place) (token : Token) (bytes : List ℕ)
+    (now named signed : Scanning) (reading : Reading) (parts web : Scanned) (at_name place : Place) (token : Token)
+    (bytes : List ℕ)
     (kind : Class) (id : ℕ)
     → token_read now ≡ Ok (token, named) → token ≡ word bytes → at_name ≡ place_of_last named
     → class_read named ≡ Ok (kind, signed) → scanning_with reading parts ≡ signed → place ≡ place_of_last signed
     → macro_defined place bytes kind parts ≡ Ok (id, web)
     → definition now ≡ right_side_read at_name id kind (scanning_with reading web)
-definition-is now named signed reading parts web at_name place token bytes kind id is name there signs view same defines =
+definition-is now named signed reading parts web at_name place token bytes kind id is name there signs view same
+    defines =
     definition-signed now named signed token bytes kind is name signs
     ∙ ap (λ (r : Result (ℕ × Scanning) Fault). r >>= side_from (place_of_last named) kind)
     (name_defined-is signed reading parts place bytes kind view same

@@ -1,27 +1,27 @@
 mod AnswerLemmas
-pub mod CodesLemmas
-pub mod DefinitionLemmas
+mod CodesLemmas
+mod DefinitionLemmas
 mod KeepsLemmas
 mod LawfulDefinitionLemmas
 pub mod LawfulLemmas
 mod LawfulSectionTextLemmas
 mod LawfulTextLemmas
 mod NamesLemmas
-pub mod NumericLemmas
+mod NumericLemmas
 mod OpenTextLemmas
 mod PartsLemmas
 mod PlacesLemmas
 mod ReadTokenLemmas
 pub mod ReadingLemmas
-pub mod ResultLemmas
-pub mod RightSideLemmas
+mod ResultLemmas
+mod RightSideLemmas
 mod ScanLemmas
-pub mod ScannerLemmas
-pub mod SectionsLemmas
-pub mod StepsLemmas
+mod ScannerLemmas
+mod SectionsLemmas
+mod StepsLemmas
 mod StoredTokenLemmas
 mod StringNumberLemmas
 mod StringsLemmas
-pub mod TextsLemmas
+mod TextsLemmas
 mod UnderLemmas
-pub mod WordValueLemmas
+mod WordValueLemmas

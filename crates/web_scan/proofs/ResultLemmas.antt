@@ -14,22 +14,26 @@ both (Ok value) f p q = f p q
 both (Err error) f p q = tt
 
 -- another fact of the value
-pub if_ok : {T E : Type 0} {P Q : T → Type 0} (r : Result T E) → ((value : T) → P value → Q value) → IfOk r P → IfOk r Q
+pub if_ok : {T E : Type 0} {P Q : T → Type 0} (r : Result T E) → ((value : T) → P value → Q value) → IfOk r P
+    → IfOk r Q
 if_ok (Ok value) f p = f value p
 if_ok (Err error) f p = tt
 
 -- another fact of the value, by two
-pub if_ok_both : {T E R : Type 0} {P Q : T → Type 0} (r : Result T E) → ((value : T) → P value → R → Q value) → IfOk r P → OnOk r R → IfOk r Q
+pub if_ok_both : {T E R : Type 0} {P Q : T → Type 0} (r : Result T E) → ((value : T) → P value → R → Q value)
+    → IfOk r P → OnOk r R → IfOk r Q
 if_ok_both (Ok value) f p holds = f value p holds
 if_ok_both (Err error) f p holds = tt
 
 -- another fact of the fault
-pub if_fault : {T : Type 0} {P Q : Fault → Type 0} (r : Result T WorkErr) → ((fault : Fault) → P fault → Q fault) → IfFault r P → IfFault r Q
+pub if_fault : {T : Type 0} {P Q : Fault → Type 0} (r : Result T WorkErr) → ((fault : Fault) → P fault → Q fault)
+    → IfFault r P → IfFault r Q
 if_fault (Ok value) f p = tt
 if_fault (Err (of_input fault)) f p = f fault p
 if_fault (Err OutOfMemory) f p = tt
 
-if_fault_of : (T U : Type 0) {P Q : Fault → Type 0} (e : WorkErr) → ((fault : Fault) → P fault → Q fault) → IfFault {T = T} (Err e) P → IfFault {T = U} (Err e) Q
+if_fault_of : (T U : Type 0) {P Q : Fault → Type 0} (e : WorkErr) → ((fault : Fault) → P fault → Q fault)
+    → IfFault {T = T} (Err e) P → IfFault {T = U} (Err e) Q
 if_fault_of T U (of_input fault) f p = f fault p
 if_fault_of T U OutOfMemory f p = tt
 

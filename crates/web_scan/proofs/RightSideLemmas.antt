@@ -1,5 +1,6 @@
 -- Right sides of definitions, a token at a time.
-use Rattle.std.proofs.Common.{◌≡◌, ◌≢◌, ℕ, ℤ, zero, suc, ◌+◌, ◌<◌, ◌≤◌, List, [], ◌∷◌, ◌++◌, length, drop, Option, Some, None}
+use Rattle.std.proofs.Common.{◌≡◌, ◌≢◌, ℕ, ℤ, zero, suc, ◌+◌, ◌<◌, ◌≤◌, List, [], ◌∷◌, ◌++◌, length, drop, Option}
+use Rattle.std.proofs.Common.{Some, None}
 use Rattle.std.proofs.Common.{Result, Ok, Err, refl, sym, ap, ◌∙◌, arith}
 use Rattle.std.specs.Prelude.{pos, IsOkAnd}
 use Rattle.wb_base.specs.declared.faults.Fault.{Fault}
@@ -92,7 +93,8 @@ pub record StillAdds (id : ℕ) (start now : Scanning) (terms : List Term) (sum 
   pub stands : StandsFor sum so_far
   pub still : StillReads side_left (side_read id) (terms, start) (so_far, now)
 
-pub StillAdds-start : (id : ℕ) (start : Scanning) (terms : List Term) (sum : Sum) → StandsFor sum terms → StillAdds id start start terms sum
+pub StillAdds-start : (id : ℕ) (start : Scanning) (terms : List Term) (sum : Sum) → StandsFor sum terms
+    → StillAdds id start start terms sum
 StillAdds-start id start terms sum stands =
     record { so_far = terms; stands = stands; still = StillReads-start side_left (side_read id) (terms, start) }
 
@@ -104,7 +106,8 @@ pub StillAdds-more :
     → IsOkAnd (with_token id (place_of_last read) token terms read.web) (AddedTo more next.web))
     → next.reading ≡ read.reading → StillAdds id start next terms more
 StillAdds-more id start now read next terms sum more token adds is shorter goes_on added same =
-    let answer = ok_of (with_token id (place_of_last read) token adds.so_far read.web) (added adds.so_far adds.stands) in
+    let answer = ok_of (with_token id (place_of_last read) token adds.so_far read.web)
+    (added adds.so_far adds.stands) in
     let less = shorter (not_end token goes_on) in
     let kept = same_rest next.reading read.reading same in
     let after : scanning_with read.reading answer.0.1 ≡ next =
@@ -141,18 +144,23 @@ pub right_side-done :
     → StillAdds id start now terms sum → token_read now ≡ Ok (token, read) → ending_code token ≡ Some c
     → (most : ℕ) → length start.reading.rest < most → IsOkAnd (right_side most id terms start) (ReadTo sum c read)
 right_side-done id start now read terms sum token c adds is ends most enough =
-    let all = StillReads-stops side_left (side_read id) (terms, start) (adds.so_far, now) (Ok (adds.so_far, c, read)) adds.still (omega arith)
+    let all = StillReads-stops side_left (side_read id) (terms, start) (adds.so_far, now)
+    (Ok (adds.so_far, c, read)) adds.still (omega arith)
     (λ left. right_side-ends id adds.so_far now read token c left is ends) most (omega arith) in
     ok_and (ReadTo sum c read) (right_side most id terms start) (adds.so_far, c, read) all
     (record { terms = adds.stands; code_is = refl; scanning_is = refl })
 
 -- the right side of a numeric macro
+abbrev value_after : ℕ → List Term × Code × Scanning → ℤ → Result (Code × Scanning) Fault
+value_after id read value = Ok (read.1, record read.2 { web = value_given id value read.2.web })
+
 abbrev valued : Place → ℕ → List Term × Code × Scanning → Result (Code × Scanning) Fault
 valued at_name id read =
-    value_of at_name read.0 >>= (λ value. Ok (read.1, record read.2 { web = value_given id value read.2.web }))
+    value_of at_name read.0 >>= value_after id read
 
 pub numeric-ok :
-    (at_name : Place) (id : ℕ) (now after : Scanning) (reading : Reading) (parts web : Scanned) (sum : Sum) (c : Code) (value : ℤ)
+    (at_name : Place) (id : ℕ) (now after : Scanning) (reading : Reading) (parts web : Scanned) (sum : Sum) (c : Code)
+    (value : ℤ)
     → IsOkAnd (right_side (most_tokens now) id [] now) (ReadTo sum c after)
     → ((terms : List Term) → StandsFor sum terms → value_of at_name terms ≡ Ok value)
     → scanning_with reading parts ≡ after → web ≡ value_given id value parts
@@ -160,10 +168,10 @@ pub numeric-ok :
 numeric-ok at_name id now after reading parts web sum c value reads valued_by view after_value =
     let answer = ok_of (right_side (most_tokens now) id [] now) reads in
     ap (λ (r : TermsRead). r >>= valued at_name id) answer.1
-    ∙ ap (λ (r : Result ℤ Fault). r >>= (λ value. Ok (answer.0.1, record answer.0.2 { web = value_given id value answer.0.2.web })))
-    (valued_by answer.0.0 answer.2.terms)
+    ∙ ap (λ (r : Result ℤ Fault). r >>= value_after id answer.0) (valued_by answer.0.0 answer.2.terms)
     ∙ ap (λ c. Ok (c, record answer.0.2 { web = value_given id value answer.0.2.web })) answer.2.code_is
-    ∙ ap (λ (after : Scanning). Ok (c, record after { web = value_given id value after.web })) (answer.2.scanning_is ∙ sym view)
+    ∙ ap (λ (after : Scanning). Ok (c, record after { web = value_given id value after.web }))
+    (answer.2.scanning_is ∙ sym view)
     ∙ ap (λ (web : Scanned). Ok (c, scanning_with reading web)) (sym after_value)
 
 pub numeric-too_big :
@@ -174,8 +182,7 @@ pub numeric-too_big :
 numeric-too_big at_name id now after sum c fault reads refuses =
     let answer = ok_of (right_side (most_tokens now) id [] now) reads in
     ap (λ (r : TermsRead). r >>= valued at_name id) answer.1
-    ∙ ap (λ (r : Result ℤ Fault). r >>= (λ value. Ok (answer.0.1, record answer.0.2 { web = value_given id value answer.0.2.web })))
-    (refuses answer.0.0 answer.2.terms)
+    ∙ ap (λ (r : Result ℤ Fault). r >>= value_after id answer.0) (refuses answer.0.0 answer.2.terms)
 
 pub numeric-fault :
     (at_name : Place) (id : ℕ) (now : Scanning) (fault : Fault) → right_side (most_tokens now) id [] now ≡ Err fault
@@ -203,7 +210,8 @@ text_side-at :
     → right_side_read at_name id kind now ≡ (macro_text (most_tokens begun) kind first begun >>= text_given)
 text_side-at at_name id kind now begun first other begins same =
     text_side at_name id kind now other
-    ∙ ap (λ first. macro_text (most_tokens (begun_with id now)) kind first (begun_with id now) >>= text_given) (sym same)
+    ∙ ap (λ first. macro_text (most_tokens (begun_with id now)) kind first (begun_with id now) >>= text_given)
+    (sym same)
     ∙ ap (λ (begun : Scanning). macro_text (most_tokens begun) kind first begun >>= text_given) (sym begins)
 
 pub text_side-ok :

@@ -30,7 +30,8 @@ after_name reading named = Ok (named.0, record reading { rest = named.1; after_d
 
 -- two answers that are the same
 same_named :
-    (a b : SectionName × Reading) (answer : Result (SectionName × Reading) Fault) → answer ≡ Ok a → answer ≡ Ok b → a ≡ b
+    (a b : SectionName × Reading) (answer : Result (SectionName × Reading) Fault)
+    → answer ≡ Ok a → answer ≡ Ok b → a ≡ b
 same_named a b answer is_a is_b = cc
 
 place_kept :
@@ -44,7 +45,8 @@ place_kept reading after name (Ok named) is =
 place_kept reading after name (Err fault) is = absurd cc
 
 -- the name of a section stands at the place of the token before it
-pub next_name-place : (reading after : Reading) (name : SectionName) → next_name reading ≡ Ok (name, after) → after.place ≡ reading.place
+pub next_name-place : (reading after : Reading) (name : SectionName) → next_name reading ≡ Ok (name, after)
+    → after.place ≡ reading.place
 next_name-place reading after name is =
     place_kept reading after name (unless_met reading.fault (name_at reading.end reading.rest)) is
 
@@ -57,7 +59,8 @@ name_read-is :
     → scanning_with reading web ≡ now → next_name reading ≡ Ok (name, after)
     → name_read now ≡ found_in after.place web (name, after)
 name_read-is now reading after web name view is =
-    ap name_read (sym view) ∙ ap (λ (read : Result (SectionName × Reading) Fault). read >>= found_in reading.place web) is
+    ap name_read (sym view) ∙ ap (λ (read : Result (SectionName × Reading) Fault). read >>= found_in reading.place web)
+    is
     ∙ ap (λ place. found_in place web (name, after)) (sym (next_name-place reading after name is))
 
 -- a name that is read and found
@@ -85,4 +88,5 @@ pub name_read-fault :
     (now : Scanning) (reading : Reading) (web : Scanned) (fault : Fault)
     → scanning_with reading web ≡ now → next_name reading ≡ Err fault → name_read now ≡ Err fault
 name_read-fault now reading web fault view is =
-    ap name_read (sym view) ∙ ap (λ (read : Result (SectionName × Reading) Fault). read >>= found_in reading.place web) is
+    ap name_read (sym view) ∙ ap (λ (read : Result (SectionName × Reading) Fault). read >>= found_in reading.place web)
+    is

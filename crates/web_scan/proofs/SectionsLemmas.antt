@@ -1,5 +1,6 @@
 -- The heads and texts of sections, a token at a time.
-use Rattle.std.proofs.Common.{◌≡◌, ◌≢◌, ℕ, zero, suc, ◌+◌, ◌<◌, ◌≤◌, Bool, true, false, List, [], ◌∷◌, length, drop, Option, Some, None}
+use Rattle.std.proofs.Common.{◌≡◌, ◌≢◌, ℕ, zero, suc, ◌+◌, ◌<◌, ◌≤◌, Bool, true, false, List, [], ◌∷◌, length, drop}
+use Rattle.std.proofs.Common.{Option, Some, None}
 use Rattle.std.proofs.Common.{Result, Ok, Err, refl, sym, ap, ◌∙◌, subst, arith}
 use Rattle.std.specs.Prelude.{if◌then◌else◌}
 use Rattle.wb_base.specs.declared.faults.Fault.{Fault}
@@ -30,7 +31,8 @@ head_read-step :
     (now read : Scanning) (token : Token) (equals plus : Bool) (left : ℕ) → token_read now ≡ Ok (token, read)
     → is_equals token ≡ equals → is_sign 43 token ≡ plus
     → head_read (suc left) now
-    ≡ (if equals then Ok read else (if plus then head_read left read else Err (fault_at NO_EQUALS_SIGN (place_of_last read))))
+    ≡ (if equals then Ok read
+    else (if plus then head_read left read else Err (fault_at NO_EQUALS_SIGN (place_of_last read))))
 unfolding head_read
 head_read-step now read token equals plus left is equal added =
     let refusal : Result Scanning Fault = Err (fault_at NO_EQUALS_SIGN (place_of_last read)) in
@@ -88,7 +90,8 @@ by_code first token scanning further (Some code) = section_ended first code scan
 
 from_code :
     (first : ℕ) (c : Code) (scanning : Scanning) (further : Scanning → TextRead)
-    → section_text_from first (control c) scanning further ≡ by_code first (control c) scanning further (ending_code (control c))
+    → section_text_from first (control c) scanning further
+    ≡ by_code first (control c) scanning further (ending_code (control c))
 from_code first code.Definition scanning further = refl
 from_code first code.Format scanning further = refl
 from_code first code.Pascal scanning further = refl
@@ -103,13 +106,17 @@ from_token first (control c) scanning further = from_code first c scanning furth
 from_token first end_of_input scanning further = refl
 from_token first other scanning further = refl
 
+-- the text of a section from a token on
+abbrev section_text_at : ℕ → ℕ → Token × Scanning → TextRead
+section_text_at first left read = section_text_from first read.0 read.1 (section_text left first)
+
 section_text-step :
     (first : ℕ) (now read : Scanning) (token : Token) (ending : Option Code) (left : ℕ)
     → token_read now ≡ Ok (token, read) → ending_code token ≡ ending
     → section_text (suc left) first now ≡ by_code first token read (section_text left first) ending
 unfolding section_text
 section_text-step first now read token ending left is ends =
-    ap (λ (r : Result (Token × Scanning) Fault). r >>= (λ read. section_text_from first read.0 read.1 (section_text left first))) is
+    ap (λ (r : Result (Token × Scanning) Fault). r >>= section_text_at first left) is
     ∙ from_token first token read (section_text left first)
     ∙ ap (by_code first token read (section_text left first)) ends
 
@@ -118,7 +125,7 @@ section_text-unread :
     → section_text (suc left) first now ≡ Err fault
 unfolding section_text
 section_text-unread first now fault left is =
-    ap (λ (r : Result (Token × Scanning) Fault). r >>= (λ read. section_text_from first read.0 read.1 (section_text left first))) is
+    ap (λ (r : Result (Token × Scanning) Fault). r >>= section_text_at first left) is
 
 pub section_text-fault :
     (first : ℕ) (start now : Scanning) (fault : Fault)
@@ -136,12 +143,12 @@ pub section_text-more :
     → (token ≢ end_of_input → length read.reading.rest < length now.reading.rest)
     → ending_code token ≡ None → text_token kind first' token read ≡ Ok next → next.reading ≡ read.reading
     → StillReads most_tokens (λ most. section_text most first) start next
-section_text-more kind first first' start now read next token still same_kind same_first is shorter goes_on stores same =
+section_text-more kind first first' start now read next token still same_kind same_first is shorter none stores same =
     let stores' = ap (λ kind. text_token kind first token read) (sym same_kind)
     ∙ ap (λ first. text_token kind first token read) (sym same_first) ∙ stores in
-    scanning_more (λ most. section_text most first) start now read next token still (not_end token goes_on) shorter
+    scanning_more (λ most. section_text most first) start now read next token still (not_end token none) shorter
     (same_rest next.reading read.reading same)
-    (λ left. section_text-step first now read token None left is goes_on
+    (λ left. section_text-step first now read token None left is none
     ∙ ap (λ (r : Result Scanning Fault). r >>= section_text left first) stores')
 
 pub section_text-refuses :
@@ -168,7 +175,8 @@ pub section_text-used :
     → length next.reading.rest ≤ length read.reading.rest
     → StillReads most_tokens (λ most. section_text most first) start next
 section_text-used first start now read next token still is shorter name stores not_longer =
-    scanning_more (λ most. section_text most first) start now read next token still (name_no_end token name) shorter not_longer
+    scanning_more (λ most. section_text most first) start now read next token still
+    (name_no_end token name) shorter not_longer
     (λ left. section_text-step first now read token (Some code.Name) left is name
     ∙ ap (λ (r : Result Scanning Fault). r >>= section_text left first) stores)
 

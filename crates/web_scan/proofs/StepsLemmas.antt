@@ -6,7 +6,8 @@ use Rattle.web_lex.specs.Token.{Token, end_of_input}
 use Rattle.web_scan.specs.Scanned.{Scanning, most_tokens}
 
 -- a rest of the bound, with which the definition reads from now on what it reads from the start
-pub record Reached {S A : Type 0} (size : S → ℕ) (read : ℕ → S → Result A Fault) (start now : S) (most : ℕ) : Type 0 where
+pub record Reached {S A : Type 0} (size : S → ℕ) (read : ℕ → S → Result A Fault) (start now : S)
+    (most : ℕ) : Type 0 where
   pub left : ℕ
   pub enough : size now ≤ left
   pub same : read most start ≡ read left now
@@ -15,7 +16,8 @@ pub record Reached {S A : Type 0} (size : S → ℕ) (read : ℕ → S → Resul
 abbrev pub StillReads : {S A : Type 0} → (S → ℕ) → (ℕ → S → Result A Fault) → S → S → Type 0
 StillReads size read start now = (most : ℕ) → size start ≤ most → Reached size read start now most
 
-pub StillReads-start : {S A : Type 0} (size : S → ℕ) (read : ℕ → S → Result A Fault) (start : S) → StillReads size read start start
+pub StillReads-start : {S A : Type 0} (size : S → ℕ) (read : ℕ → S → Result A Fault) (start : S)
+    → StillReads size read start start
 StillReads-start size read start most enough = record { left = most; enough = enough; same = refl }
 
 Reached-more :
@@ -44,7 +46,8 @@ StillReads-ends size read start now result still ends most enough =
     let reached = still most enough in reached.same ∙ ends reached.left
 
 Reached-stops :
-    {S A : Type 0} (size : S → ℕ) (read : ℕ → S → Result A Fault) (start now : S) (result : Result A Fault) (most left : ℕ)
+    {S A : Type 0} (size : S → ℕ) (read : ℕ → S → Result A Fault) (start now : S) (result : Result A Fault)
+    (most left : ℕ)
     → size now ≤ left → read most start ≡ read left now → 0 < size now
     → ((left : ℕ) → read (suc left) now ≡ result) → read most start ≡ result
 Reached-stops size read start now result most zero enough same some stops = absurd (omega arith)

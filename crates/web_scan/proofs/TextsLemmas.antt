@@ -1,9 +1,12 @@
 -- The texts of macros and sections, a token at a time.
-use Rattle.std.proofs.Common.{◌≡◌, ◌≢◌, ℕ, zero, suc, ◌+◌, ◌-◌, ◌<◌, ◌≤◌, ◌==◌, ◌⊎◌, Bool, true, false, List, [], ◌∷◌, ◌++◌}
-use Rattle.std.proofs.Common.{length, drop, Option, Some, None, Result, Ok, Err, refl, sym, ap, ◌∙◌, arith, length-append, length-drop}
+use Rattle.std.proofs.Common.{◌≡◌, ◌≢◌, ℕ, zero, suc, ◌+◌, ◌-◌, ◌<◌, ◌≤◌, ◌==◌, ◌⊎◌, Bool, true, false, List, [], ◌∷◌}
+use Rattle.std.proofs.Common.{◌++◌}
+use Rattle.std.proofs.Common.{length, drop, Option, Some, None, Result, Ok, Err, refl, sym, ap, ◌∙◌, arith}
+use Rattle.std.proofs.Common.{length-append, length-drop}
 use Rattle.std.specs.Prelude.{nat_lt, fold, pos, if◌then◌else◌}
 use Rattle.std.proofs.lemmas.Bool.{ltb-true}
 use Rattle.std.proofs.lemmas.List.{drop-append-le}
+use Rattle.std.proofs.lemmas.List.Sums.{fold-append}
 use Rattle.wb_base.specs.declared.faults.Fault.{Fault}
 use Rattle.wb_base.specs.declared.faults.TheConstants.{LIMIT_NAMES, LIMIT_TOKENS}
 use Rattle.wb_base.specs.declared.places.Place.{Place}
@@ -18,7 +21,13 @@ use Rattle.web_names.specs.declared.classes.Class.{Class}
 use Rattle.web_scan.specs.declared.limits.TheConstants.{TOKEN_LIMIT}
 use Rattle.web_scan.specs.Limits.{stored, with_room}
 use Rattle.web_scan.specs.Scanned.{Scanned, Scanning, token_read, most_tokens}
-use Rattle.web_scan.specs.Texts.{opened_after, still_open, stored_since, text_token, ended_text, ending_code, macro_text, macro_text_from}
+use Rattle.web_scan.specs.Texts.{opened_after, still_open, stored_since, text_token, ended_text, ending_code}
+use Rattle.web_scan.specs.Texts.{TextRead, macro_text, macro_text_from}
+
+-- the text of a macro from a token on
+abbrev macro_text_at : Class → ℕ → ℕ → Token × Scanning → TextRead
+macro_text_at kind first left read =
+    macro_text_from kind first read.0 read.1 (macro_text left kind first) (ending_code read.0)
 
 -- a token more, or one that ends the text
 pub macro_text-more :
@@ -27,7 +36,7 @@ pub macro_text-more :
     → macro_text (suc left) kind first now ≡ macro_text left kind first next
 unfolding macro_text
 macro_text-more kind first now read next token left is goes_on stores =
-    ap (λ (r : Result (Token × Scanning) Fault). r >>= (λ read. macro_text_from kind first read.0 read.1 (macro_text left kind first) (ending_code read.0))) is
+    ap (λ (r : Result (Token × Scanning) Fault). r >>= macro_text_at kind first left) is
     ∙ ap (macro_text_from kind first token read (macro_text left kind first)) goes_on
     ∙ ap (λ (r : Result Scanning Fault). r >>= macro_text left kind first) stores
 
@@ -37,7 +46,7 @@ pub macro_text-refused :
     → macro_text (suc left) kind first now ≡ Err fault
 unfolding macro_text
 macro_text-refused kind first now read token fault left is goes_on refuses =
-    ap (λ (r : Result (Token × Scanning) Fault). r >>= (λ read. macro_text_from kind first read.0 read.1 (macro_text left kind first) (ending_code read.0))) is
+    ap (λ (r : Result (Token × Scanning) Fault). r >>= macro_text_at kind first left) is
     ∙ ap (macro_text_from kind first token read (macro_text left kind first)) goes_on
     ∙ ap (λ (r : Result Scanning Fault). r >>= macro_text left kind first) refuses
 
@@ -47,7 +56,7 @@ pub macro_text-ends :
     → macro_text (suc left) kind first now ≡ Ok (text, code, read)
 unfolding macro_text
 macro_text-ends kind first now read token code text left is ends balanced =
-    ap (λ (r : Result (Token × Scanning) Fault). r >>= (λ read. macro_text_from kind first read.0 read.1 (macro_text left kind first) (ending_code read.0))) is
+    ap (λ (r : Result (Token × Scanning) Fault). r >>= macro_text_at kind first left) is
     ∙ ap (macro_text_from kind first token read (macro_text left kind first)) ends
     ∙ ap (λ (r : Result (List Tok) Fault). r >>= (λ text. Ok (text, code, read))) balanced
 
@@ -57,7 +66,7 @@ pub macro_text-open :
     → macro_text (suc left) kind first now ≡ Err fault
 unfolding macro_text
 macro_text-open kind first now read token code fault left is ends unended =
-    ap (λ (r : Result (Token × Scanning) Fault). r >>= (λ read. macro_text_from kind first read.0 read.1 (macro_text left kind first) (ending_code read.0))) is
+    ap (λ (r : Result (Token × Scanning) Fault). r >>= macro_text_at kind first left) is
     ∙ ap (macro_text_from kind first token read (macro_text left kind first)) ends
     ∙ ap (λ (r : Result (List Tok) Fault). r >>= (λ text. Ok (text, code, read))) unended
 
@@ -66,7 +75,7 @@ pub macro_text-unread :
     → token_read now ≡ Err fault → macro_text (suc left) kind first now ≡ Err fault
 unfolding macro_text
 macro_text-unread kind first now fault left is =
-    ap (λ (r : Result (Token × Scanning) Fault). r >>= (λ read. macro_text_from kind first read.0 read.1 (macro_text left kind first) (ending_code read.0))) is
+    ap (λ (r : Result (Token × Scanning) Fault). r >>= macro_text_at kind first left) is
 
 -- what is stored with one more token
 pub record IsStored (web : Scanned) (token : Tok) (after : Scanned) : Type 0 where
@@ -80,27 +89,29 @@ stored_by :
     → IsStored web token after
 stored_by place token web after true room is =
     let same : record web { tokens = web.tokens ++ token ∷ [] } ≡ after = cc in
-    record { few = ltb-true (length web.tokens) TOKEN_LIMIT room; tokens = sym (ap (λ (web : Scanned). web.tokens) same) }
+    record {
+      few = ltb-true (length web.tokens) TOKEN_LIMIT room;
+      tokens = sym
+          (ap (λ (web : Scanned). web.tokens) same);
+    }
 stored_by place token web after false room is = absurd cc
 
-pub is_stored : (place : Place) (token : Tok) (web after : Scanned) → stored place token web ≡ Ok after → IsStored web token after
+pub is_stored : (place : Place) (token : Tok) (web after : Scanned) → stored place token web ≡ Ok after
+    → IsStored web token after
 is_stored place token web after is = stored_by place token web after (nat_lt (length web.tokens) TOKEN_LIMIT) refl is
 
 -- parentheses after one more token
-fold-append : (xs ys : List Tok) (depth : ℕ) → fold opened_after depth (xs ++ ys) ≡ fold opened_after (fold opened_after depth xs) ys
-fold-append [] ys depth = refl
-fold-append (x ∷ xs) ys depth = fold-append xs ys (opened_after depth x)
-
 pub open-stored :
     (first : ℕ) (web after : Scanned) (token : Tok) → first ≤ length web.tokens → IsStored web token after
     → still_open (stored_since first after) ≡ opened_after (still_open (stored_since first web)) token
 open-stored first web after token within is =
     ap (λ tokens. still_open (drop first tokens)) is.tokens
     ∙ ap still_open (drop-append-le first web.tokens (token ∷ []) within)
-    ∙ fold-append (drop first web.tokens) (token ∷ []) 0
+    ∙ fold-append opened_after 0 (drop first web.tokens) (token ∷ [])
 
 -- no more parentheses are open than tokens are stored
-opened_by-le : (depth : ℕ) (opens closes : Bool) → (if opens then depth + 1 else (if closes then depth - 1 else depth)) ≤ depth + 1
+opened_by-le : (depth : ℕ) (opens closes : Bool)
+    → (if opens then depth + 1 else (if closes then depth - 1 else depth)) ≤ depth + 1
 opened_by-le depth true closes = omega arith
 opened_by-le depth false true = omega arith
 opened_by-le depth false false = omega arith
@@ -133,12 +144,12 @@ pub macro_text-step :
     → (token ≢ end_of_input → length read.reading.rest < length now.reading.rest)
     → ending_code token ≡ None → text_token kind' first' token read ≡ Ok next → next.reading ≡ read.reading
     → StillReads most_tokens (λ most. macro_text most kind first) start next
-macro_text-step kind kind' first first' start now read next token still same_kind same_first is shorter goes_on stores same =
+macro_text-step kind kind' first first' start now read next token still same_kind same_first is shorter none stores same =
     let stores' = ap (λ kind. text_token kind first token read) (sym same_kind)
     ∙ ap (λ first. text_token kind' first token read) (sym same_first) ∙ stores in
-    scanning_more (λ most. macro_text most kind first) start now read next token still (not_end token goes_on) shorter
+    scanning_more (λ most. macro_text most kind first) start now read next token still (not_end token none) shorter
     (same_rest next.reading read.reading same)
-    (λ left. macro_text-more kind first now read next token left is goes_on stores')
+    (λ left. macro_text-more kind first now read next token left is none stores')
 
 pub macro_text-refuses :
     (kind kind' : Class) (first first' : ℕ) (start now read : Scanning) (token : Token) (fault : Fault)

@@ -1,5 +1,6 @@
 -- The value of a word in a numeric definition, by what a use of the word gives.
-use Rattle.std.proofs.Common.{◌≡◌, ◌≢◌, ℕ, ℤ, ◌<◌, ◌≤◌, ◌⊎◌, inl, inr, Bool, true, false, List, [], ◌∷◌, ◌++◌, map, length}
+use Rattle.std.proofs.Common.{◌≡◌, ◌≢◌, ℕ, ℤ, ◌<◌, ◌≤◌, ◌⊎◌, inl, inr, Bool, true, false, List, [], ◌∷◌, ◌++◌, map}
+use Rattle.std.proofs.Common.{length}
 use Rattle.std.proofs.Common.{Option, Some, None, Result, Ok, Err, refl, sym, ap, ◌∙◌, arith}
 use Rattle.std.specs.Prelude.{slice_get, pos, ◌==◌, if◌then◌else◌, option_map}
 use Rattle.std.proofs.lemmas.Bool.{ne_eqb, cases_lt}
@@ -12,7 +13,8 @@ use Rattle.web_names.specs.declared.classes.Class.TheVariants as class
 use Rattle.web_names.specs.declared.name_errors.NameErr.{NameErr}
 use Rattle.web_names.specs.declared.name_errors.NameErr.TheVariants as refusal
 use Rattle.web_names.specs.Refusals.{IfRefused}
-use Rattle.web_names.specs.Identifiers.{Name, Identifiers, id_of, is_numeric, is_in_conflict, new_name, with_name, used, used_at, name_limit}
+use Rattle.web_names.specs.Identifiers.{Name, Identifiers, id_of, is_numeric, is_in_conflict, new_name, with_name}
+use Rattle.web_names.specs.Identifiers.{used, used_at, name_limit}
 use Rattle.wb_base.specs.declared.faults.Fault.{Fault}
 use Rattle.wb_base.specs.declared.faults.WorkErr.{WorkErr}
 use Rattle.wb_base.specs.declared.faults.WorkErr.TheVariants.{Fault as of_input}
@@ -37,7 +39,8 @@ same_kind a b found is_a is_b = cc
 -- the word is a name already, and this is its id; or it is new and ordinary
 pub data UsedAs (word : List ℕ) (names : List Name) (id : ℕ) (after : List Name) : Type 0 where
   held : id_of word names ≡ Some id → after ≡ names → UsedAs word names id after
-  new : id_of word names ≡ None → slice_get (map kind_of after) id ≡ Some (class.Ordinary, pos 0) → UsedAs word names id after
+  new : id_of word names ≡ None → slice_get (map kind_of after) id ≡ Some (class.Ordinary, pos 0)
+      → UsedAs word names id after
 
 new_kind :
     (word : List ℕ) (names : List Name) (id : ℕ) (after : List Name)
@@ -106,11 +109,14 @@ value-refused defining options word names error refused memory =
 
 -- what is answered for a word without a value
 pub none_refused :
-    (T : Type 0) (r : Result T WorkErr) (place : Place) (defining : ℕ) (word : List ℕ) (names now : List Name) → names ≡ now
-    → word_value defining (id_of word names) names ≡ None → r ≡ Err (of_input (fault_at BAD_NUMERIC_DEFINITION place))
-    → IfFault r (λ fault. (terms : List Term) → with_constant place (word_value defining (id_of word now) now) terms ≡ Err fault)
+    (T : Type 0) (r : Result T WorkErr) (place : Place) (defining : ℕ) (word : List ℕ) (names now : List Name)
+    → names ≡ now → word_value defining (id_of word names) names ≡ None → r ≡ Err (of_input (fault_at BAD_NUMERIC_DEFINITION place))
+    → IfFault r (λ fault.
+    (terms : List Term) → with_constant place (word_value defining (id_of word now) now) terms ≡ Err fault)
 none_refused T r place defining word names now same none is =
-    rw is (λ terms. ap (λ (names : List Name). with_constant place (word_value defining (id_of word names) names) terms) (sym same)
+    rw is
+    (λ terms.
+    ap (λ (names : List Name). with_constant place (word_value defining (id_of word names) names) terms) (sym same)
     ∙ ap (λ value. with_constant place value terms) none)
 
 -- two lists of names with the same options
@@ -131,7 +137,8 @@ by_found defining id (Some name) value is other =
     let valued : name.value ≡ value = ap (λ p. p.1) same in
     rw (ne_eqb id defining other, numeric) (ap Some valued)
 
-none_by_class : (kind : Class) (value : ℤ) → kind ≢ class.Numeric → (if is_numeric kind then Some value else None) ≡ None
+none_by_class : (kind : Class) (value : ℤ) → kind ≢ class.Numeric
+    → (if is_numeric kind then Some value else None) ≡ None
 none_by_class class.Ordinary value other = refl
 none_by_class class.Numeric value other = absurd (other refl)
 none_by_class class.Simple value other = refl
@@ -166,13 +173,15 @@ pub record IsValueOf (defining : ℕ) (word : List ℕ) (names after : List Name
 
 pub value-numeric :
     (defining : ℕ) (word : List ℕ) (names : List Name) (id : ℕ) (after : List Name) (kind : Class) (value : ℤ)
-    → UsedAs word names id after → slice_get (map kind_of after) id ≡ Some (kind, value) → kind ≡ class.Numeric → id ≢ defining
+    → UsedAs word names id after → slice_get (map kind_of after) id ≡ Some (kind, value) → kind ≡ class.Numeric
+    → id ≢ defining
     → IsValueOf defining word names after value
 value-numeric defining word names id after kind value (held is same) at numeric other =
     record {
       value_is = ap (λ at. word_value defining at names) is
           ∙ by_found defining id (slice_get names id) value
-          (sym (slice_get-map kind_of names id) ∙ ap (λ (after : List Name). slice_get (map kind_of after) id) (sym same) ∙ at
+          (sym (slice_get-map kind_of names id)
+          ∙ ap (λ (after : List Name). slice_get (map kind_of after) id) (sym same) ∙ at
           ∙ ap (λ kind. Some (kind, value)) numeric) other;
       unchanged = same;
     }
@@ -187,8 +196,10 @@ pub value-none :
 value-none defining word names id after kind value (held is same) at other =
     ap (λ at. word_value defining at names) is
     ∙ none_found defining id (slice_get names id) kind value
-    (sym (slice_get-map kind_of names id) ∙ ap (λ (after : List Name). slice_get (map kind_of after) id) (sym same) ∙ at) other
-value-none defining word names id after kind value (new is ordinary) at other = ap (λ at. word_value defining at names) is
+    (sym (slice_get-map kind_of names id)
+    ∙ ap (λ (after : List Name). slice_get (map kind_of after) id) (sym same) ∙ at) other
+value-none defining word names id after kind value (new is ordinary) at other =
+    ap (λ at. word_value defining at names) is
 
 -- nor has the one that is being defined
 pub value-defining :

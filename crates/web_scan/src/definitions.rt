@@ -5,7 +5,8 @@ ghost use Rattle.wb_base.specs.FaultAt.{fault_at};
 ghost use Rattle.wb_base.specs.declared.faults.WorkErr.TheVariants.{Fault as of_input};
 ghost use Rattle.web_lex.specs.Token.{token_of};
 ghost use Rattle.web_scan.specs.Scanned.{place_of_last};
-ghost use Rattle.web_scan.specs.Definitions.{definition, class_read, parameter_read, expected, is_sign, is_same, right_side_read};
+ghost use Rattle.web_scan.specs.Definitions.{definition, class_read, parameter_read, expected, is_sign, is_same};
+ghost use Rattle.web_scan.specs.Definitions.{right_side_read};
 
 use crate::scanner::Scanner;
 use wb_base::faults::BAD_DEFINITION;

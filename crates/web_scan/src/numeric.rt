@@ -1,5 +1,6 @@
 //! The right sides of numeric definitions, and their values.
-ghost use Rattle.std.specs.Prelude.{◌≡◌, false, ◌<◌, ◌≤◌, ◌+ℤ◌, ◌*ℤ◌, ◌∷◌, [], ℕ, List, length, None, Ok, Err, IfOk, IfErr, OnOk, IsOkAnd};
+ghost use Rattle.std.specs.Prelude.{◌≡◌, false, ◌<◌, ◌≤◌, ◌+ℤ◌, ◌*ℤ◌, ◌∷◌, [], ℕ, List, length, None, Ok, Err, IfOk};
+ghost use Rattle.std.specs.Prelude.{IfErr, OnOk, IsOkAnd};
 ghost use Rattle.wb_base.specs.WorkResult.{IfFault};
 ghost use Rattle.web_lex.specs.Token.{token_of};
 ghost use Rattle.web_scan.specs.Scanned.{place_of_last};
@@ -169,7 +170,7 @@ impl<'l> Scanner<'l> {
     fn add_term(&mut self, id: u32, sum: &mut Sum, token: Lexed<'l>) -> Result<(), WorkErr>
         ensures ok { OnOk result ((terms : List Term) → StandsFor sum.old terms
             → IsOkAnd (with_token id (place_of_last self.old) (token_of token.entry) terms self.old.web)
-                (AddedTo sum.new self.new.web)) }
+            (AddedTo sum.new self.new.web)) }
         ensures fault { IfFault result (λ fault. (terms : List Term) → StandsFor sum.old terms
             → with_token id (place_of_last self.old) (token_of token.entry) terms self.old.web ≡ Err fault) }
         ensures names { OnOk result (self.new.web.names ≡ self.old.web.names) }

@@ -2,14 +2,15 @@
 ghost use Rattle.std.specs.Prelude.{◌≡◌, ◌≢◌, ◌<◌, ◌≤◌, ℕ, length, Ok, Err, IfOk, OnOk};
 ghost use Rattle.wb_base.specs.WorkResult.{IfFault};
 ghost use Rattle.web_scan.specs.Texts.{still_open, stored_since};
-ghost use Rattle.web_scan.specs.Sections.{sections, section, section_parts, named_text, head_read, pascal_text, section_text, section_used};
+ghost use Rattle.web_scan.specs.Sections.{sections, section, section_parts, named_text, head_read, pascal_text};
+ghost use Rattle.web_scan.specs.Sections.{section_text, section_used};
 ghost use Rattle.web_scan.specs.inner.Open.{IsOpen};
 ghost use Rattle.web_scan.specs.inner.Ended.{section_ended};
 ghost use Rattle.web_lex.specs.Token.{token_of};
 ghost use Rattle.web_scan.specs.Sections.{is_equals};
 
-use crate::scanner::Scanner;
 use crate::definitions::{is_same, is_sign};
+use crate::scanner::Scanner;
 use crate::texts::{OpenText, ending_code};
 use wb_base::faults::{DEFINITION_IN_PASCAL, NO_EQUALS_SIGN};
 use wb_base::{Fault, Tok, WorkErr};

@@ -4,7 +4,8 @@ ghost use Rattle.wb_base.specs.WorkResult.{IfFault};
 ghost use Rattle.web_lex.specs.Token.{token_of, control};
 ghost use Rattle.web_names.specs.declared.classes.Class.{Class};
 ghost use Rattle.web_scan.specs.Scanned.{place_of_last};
-ghost use Rattle.web_scan.specs.Texts.{sign_token, token_stored, text_token, stored_since, ended_text, ending_code, macro_text};
+ghost use Rattle.web_scan.specs.Texts.{sign_token, token_stored, text_token, stored_since, ended_text, ending_code};
+ghost use Rattle.web_scan.specs.Texts.{macro_text};
 ghost use Rattle.web_scan.specs.inner.Open.{IsOpen};
 
 use crate::scanner::Scanner;
@@ -96,8 +97,10 @@ impl<'l> Scanner<'l> {
         token: Lexed<'l>,
     ) -> Result<(), WorkErr>
         requires { IsOpen text.old self.old.web }
-        ensures ok { OnOk result (text_token text.old.class text.old.first (token_of token.entry) self.old ≡ Ok self.new) }
-        ensures fault { IfFault result (λ fault. text_token text.old.class text.old.first (token_of token.entry) self.old ≡ Err fault) }
+        ensures ok { OnOk result (text_token text.old.class text.old.first (token_of token.entry) self.old
+            ≡ Ok self.new) }
+        ensures fault { IfFault result (λ fault.
+            text_token text.old.class text.old.first (token_of token.entry) self.old ≡ Err fault) }
         ensures open { OnOk result (IsOpen text.new self.new.web) }
         ensures class { text.new.class ≡ text.old.class }
         ensures first { text.new.first ≡ text.old.first }
@@ -122,8 +125,10 @@ impl<'l> Scanner<'l> {
 
     // Stores a token of a text.
     fn store_token(&mut self, class: Class, token: Lexed<'l>) -> Result<(), WorkErr>
-        ensures ok { OnOk result (token_stored class (place_of_last self.old) (token_of token.entry) self.old.web ≡ Ok self.new.web) }
-        ensures fault { IfFault result (λ fault. token_stored class (place_of_last self.old) (token_of token.entry) self.old.web ≡ Err fault) }
+        ensures ok { OnOk result (token_stored class (place_of_last self.old) (token_of token.entry) self.old.web
+            ≡ Ok self.new.web) }
+        ensures fault { IfFault result (λ fault.
+            token_stored class (place_of_last self.old) (token_of token.entry) self.old.web ≡ Err fault) }
         ensures grows { length self.old.web.tokens ≤ length self.new.web.tokens }
         ensures reading { self.new.reading ≡ self.old.reading }
     {

@@ -1,4 +1,4 @@
-use Rattle.std.proofs.Common.{◌≡◌, ◌≤◌, ◌∙◌, length, ap, sym, arith}
+use Rattle.std.proofs.Common.{◌∙◌, ap, sym, arith}
 use Rattle.web_lex.specs.declared.tokens.Lexed.{Lexed}
 use Rattle.web_lex.specs.Token.{token_of}
 use Rattle.web_scan.specs.Scanned.{Scanned}
@@ -24,7 +24,8 @@ pub loop-token-preserved : goal.loop-token-preserved
 loop-token-preserved c =
     let same = same_rest c.add_term.new.self.reading c.token.new.self.reading c.add_term.ensures.reading in
     record {
-      adds = λ terms stands. StillAdds-more c.args.id c.args.self.now c.loop-token.self c.token.new.self c.add_term.new.self
+      adds = λ terms stands. StillAdds-more c.args.id c.args.self.now c.loop-token.self c.token.new.self
+          c.add_term.new.self
           terms c.loop-token.sum c.add_term.new.sum (token_of c.in_ok-token.token)
           (c.loop-token.invariant.adds terms stands) c.in_ok-token.ensures.ok c.in_ok-token.ensures.shorter
           (sym c.ending_code.ensures ∙ c.in_default.is) c.in_ok-add_term.ensures.ok c.add_term.ensures.reading;
@@ -37,7 +38,9 @@ pub returns-in_err-add_term-clause-fault : goal.returns-in_err-add_term-clause-f
 returns-in_err-add_term-clause-fault c =
     handed_on (Unit {0}) c.from_residual-in_err-add_term.result c.in_err-add_term.field-0.0
     c.from_residual-in_err-add_term.ensures.1
-    (λ fault refuses terms stands. right_side-refuses c.args.id c.args.self.now c.loop-token.self c.token.new.self terms
-    c.loop-token.sum (token_of c.in_ok-token.token) fault (c.loop-token.invariant.adds terms stands) c.in_ok-token.ensures.ok
+    (λ fault refuses terms stands. right_side-refuses c.args.id c.args.self.now c.loop-token.self c.token.new.self
+    terms
+    c.loop-token.sum (token_of c.in_ok-token.token) fault
+    (c.loop-token.invariant.adds terms stands) c.in_ok-token.ensures.ok
     (sym c.ending_code.ensures ∙ c.in_default.is) refuses)
     c.in_err-add_term.ensures.fault

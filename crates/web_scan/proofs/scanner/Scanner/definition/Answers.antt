@@ -1,4 +1,4 @@
-use Rattle.std.proofs.Common.{ℕ, ◌≡◌, ◌∙◌, ap, Err}
+use Rattle.std.proofs.Common.{ℕ, ◌∙◌, ap}
 use Rattle.web_lex.specs.declared.tokens.Lexed.{Lexed}
 use Rattle.web_lex.specs.Token.{token_of}
 use Rattle.web_names.specs.declared.classes.Class.{Class}
@@ -23,14 +23,16 @@ returns-in_default c =
 pub returns-in_err-class-clause-fault : goal.returns-in_err-class-clause-fault
 returns-in_err-class-clause-fault c =
     handed_on Class c.from_residual-in_err-class.result c.in_err-class.field-0.0 c.from_residual-in_err-class.ensures.1
-    (λ fault. definition-unsigned c.args.self.now c.token.new.self (token_of c.in_ok-word.field-0) c.in-Word.word.now fault
+    (λ fault. definition-unsigned c.args.self.now c.token.new.self
+    (token_of c.in_ok-word.field-0) c.in-Word.word.now fault
     c.in_ok-word.ensures.ok (ap token_of c.in-Word.is))
     c.in_err-class.ensures.fault
 
 pub returns-in_err-id-clause-fault : goal.returns-in_err-id-clause-fault
 returns-in_err-id-clause-fault c =
     handed_on ℕ c.from_residual-in_err-id.result c.in_err-id.field-0.0 c.from_residual-in_err-id.ensures.1
-    (λ fault. definition-refused c.args.self.now c.token.new.self c.class_signs.new.self c.self.inside.reader c.self.inside.parts
+    (λ fault. definition-refused c.args.self.now c.token.new.self c.class_signs.new.self c.self.inside.reader
+    c.self.inside.parts
     c.place-at_sign.result (token_of c.in_ok-word.field-0) c.in-Word.word.now c.in_ok-class.class fault
     c.in_ok-word.ensures.ok (ap token_of c.in-Word.is) c.in_ok-class.ensures.ok c.self.view_is c.place-at_sign.ensures)
     c.in_err-id.ensures.fault
@@ -38,7 +40,8 @@ returns-in_err-id-clause-fault c =
 pub returns-clause-ok : goal.returns-clause-ok
 returns-clause-ok c =
     if_ok c.right_side.result
-    (λ code side. definition-is c.args.self.now c.token.new.self c.class_signs.new.self c.self.inside.reader c.self.inside.parts
+    (λ code side. definition-is c.args.self.now c.token.new.self c.class_signs.new.self c.self.inside.reader
+    c.self.inside.parts
     c.define.new.self c.place-at_name.result c.place-at_sign.result (token_of c.in_ok-word.field-0) c.in-Word.word.now
     c.in_ok-class.class c.in_ok-id.id c.in_ok-word.ensures.ok (ap token_of c.in-Word.is) c.place-at_name.ensures
     c.in_ok-class.ensures.ok c.self.view_is c.place-at_sign.ensures c.in_ok-id.ensures.ok ∙ side)
@@ -47,7 +50,8 @@ returns-clause-ok c =
 pub returns-clause-fault : goal.returns-clause-fault
 returns-clause-fault c =
     if_fault c.right_side.result
-    (λ fault side. definition-is c.args.self.now c.token.new.self c.class_signs.new.self c.self.inside.reader c.self.inside.parts
+    (λ fault side. definition-is c.args.self.now c.token.new.self c.class_signs.new.self c.self.inside.reader
+    c.self.inside.parts
     c.define.new.self c.place-at_name.result c.place-at_sign.result (token_of c.in_ok-word.field-0) c.in-Word.word.now
     c.in_ok-class.class c.in_ok-id.id c.in_ok-word.ensures.ok (ap token_of c.in-Word.is) c.place-at_name.ensures
     c.in_ok-class.ensures.ok c.self.view_is c.place-at_sign.ensures c.in_ok-id.ensures.ok ∙ side)

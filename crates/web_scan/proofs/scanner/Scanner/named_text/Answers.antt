@@ -1,4 +1,4 @@
-use Rattle.std.proofs.Common.{ℕ, ◌≡◌, ◌∙◌, ◌<◌, length, arith}
+use Rattle.std.proofs.Common.{ℕ, ◌∙◌, arith}
 use Rattle.web_scan.specs.Scanned.{most_tokens}
 use Rattle.web_scan.proofs.ResultLemmas.{if_ok, if_fault, handed_on}
 use Rattle.web_scan.proofs.SectionsLemmas.{named_text-is, named_text-unnamed, named_text-headless}
@@ -23,7 +23,8 @@ returns-clause-ok c =
     let named = c.section_name.new.self in
     let begins = c.in_ok-head_signs.ensures.ok (most_tokens named) (omega arith) in
     if_ok c.pascal_text.result
-    (λ code is. named_text-is c.args.self.now named c.head_signs.new.self c.in_ok-name.name c.in_ok-name.ensures.ok begins ∙ is)
+    (λ code is. named_text-is c.args.self.now named c.head_signs.new.self c.in_ok-name.name c.in_ok-name.ensures.ok
+    begins ∙ is)
     c.pascal_text.ensures.ok
 
 pub returns-clause-fault : goal.returns-clause-fault
@@ -31,5 +32,6 @@ returns-clause-fault c =
     let named = c.section_name.new.self in
     let begins = c.in_ok-head_signs.ensures.ok (most_tokens named) (omega arith) in
     if_fault c.pascal_text.result
-    (λ fault is. named_text-is c.args.self.now named c.head_signs.new.self c.in_ok-name.name c.in_ok-name.ensures.ok begins ∙ is)
+    (λ fault is. named_text-is c.args.self.now named c.head_signs.new.self c.in_ok-name.name c.in_ok-name.ensures.ok
+    begins ∙ is)
     c.pascal_text.ensures.fault

@@ -1,4 +1,4 @@
-use Rattle.std.proofs.Common.{◌≡◌, ◌≢◌, ◌≤◌, ◌<◌, length, ap, Ok, Err, arith}
+use Rattle.std.proofs.Common.{◌≢◌, length, ap, Ok, Err, arith}
 use Rattle.web_lex.specs.declared.codes.Code.TheVariants as code
 use Rattle.web_scan.specs.Scanned.{Scanning}
 use Rattle.web_scan.proofs.ResultLemmas.{if_ok, if_ok_both, if_fault, handed_on}
@@ -18,7 +18,8 @@ returns-clause-ok c =
     if_ok c.section_parts.result
     (λ code. section-is c.args.self.now c.skip_ahead-code.new.self c.self.inside.reader c.self.inside.parts
     c.begin_section.new.self c.place-place.result c.skip_ahead-code.result (Ok (code, c.section_parts.new.self))
-    c.self.view_is c.place-place.ensures c.in_ok-begin_section.ensures.ok c.skip_ahead-code.ensures.found (omega arith))
+    c.self.view_is c.place-place.ensures c.in_ok-begin_section.ensures.ok c.skip_ahead-code.ensures.found
+    (omega arith))
     c.section_parts.ensures.ok
 
 pub returns-clause-fault : goal.returns-clause-fault
@@ -27,7 +28,8 @@ returns-clause-fault c =
     if_fault c.section_parts.result
     (λ fault. section-is c.args.self.now c.skip_ahead-code.new.self c.self.inside.reader c.self.inside.parts
     c.begin_section.new.self c.place-place.result c.skip_ahead-code.result (Err fault)
-    c.self.view_is c.place-place.ensures c.in_ok-begin_section.ensures.ok c.skip_ahead-code.ensures.found (omega arith))
+    c.self.view_is c.place-place.ensures c.in_ok-begin_section.ensures.ok c.skip_ahead-code.ensures.found
+    (omega arith))
     c.section_parts.ensures.fault
 
 pub returns-clause-shorter : goal.returns-clause-shorter
@@ -36,7 +38,8 @@ returns-clause-shorter c =
     if_ok_both c.section_parts.result
     (λ ended is not_longer other.
     let found_other : c.skip_ahead-code.result ≢ code.End =
-    λ end. other (end_kept c.skip_ahead-code.result ended c.skip_ahead-code.new.self c.section_parts.new.self is end) in
+    λ end. other (end_kept c.skip_ahead-code.result ended c.skip_ahead-code.new.self c.section_parts.new.self is end)
+    in
     let shorter = c.skip_ahead-code.ensures.shorter found_other in
     omega arith)
     c.section_parts.ensures.ok c.section_parts.ensures.not_longer

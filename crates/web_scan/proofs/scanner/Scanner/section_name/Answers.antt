@@ -1,7 +1,4 @@
-use Rattle.std.proofs.Common.{◌≡◌, Ok, Err}
 use Rattle.web_lex.specs.declared.section_names.SectionName.{SectionName}
-use Rattle.web_lex.specs.Reading.{next_name}
-use Rattle.web_scan.specs.Sections.{name_read}
 use Rattle.web_scan.proofs.ResultLemmas.{if_ok, if_fault, handed_on}
 use Rattle.web_scan.proofs.ScannerLemmas.{name_read-ok, name_read-refused, name_read-fault}
 use Rattle.web_scan.proofs.scanner.Scanner.section_name.Goals as goal

@@ -1,13 +1,15 @@
-use Rattle.std.proofs.Common.{◌≡◌, ◌≤◌, ◌<◌, inl, inr, length, Ok, Err, arith}
+use Rattle.std.proofs.Common.{inl, inr, Ok, Err, arith}
 use Rattle.web_lex.specs.declared.codes.Code.{Code}
 use Rattle.web_scan.proofs.ResultLemmas.{if_ok, if_fault, handed_on}
-use Rattle.web_scan.proofs.CodesLemmas.{parts-definition, parts-undefined, parts-pascal, parts-name, parts-section, parts-end, parts-passed, IsPassed}
+use Rattle.web_scan.proofs.CodesLemmas.{parts-definition, parts-undefined, parts-pascal, parts-name, parts-section}
+use Rattle.web_scan.proofs.CodesLemmas.{parts-end, parts-passed, IsPassed}
 use Rattle.web_scan.proofs.scanner.Scanner.section_parts.Goals as goal
 
 pub returns-in_err-code-in-Definition-clause-fault : goal.returns-in_err-code-in-Definition-clause-fault
 returns-in_err-code-in-Definition-clause-fault c =
     handed_on Code c.from_residual.result c.in_err-code-in-Definition.field-0.0 c.from_residual.ensures.1
-    (λ fault. parts-undefined (c.args.first, c.args.self.now) c.loop-code.code c.loop-code.self fault c.loop-code.invariant.still
+    (λ fault. parts-undefined (c.args.first, c.args.self.now) c.loop-code.code c.loop-code.self fault
+    c.loop-code.invariant.still
     c.in-Definition.is)
     c.in_err-code-in-Definition.ensures.fault
 
@@ -24,7 +26,8 @@ loop-code-preserved-in-Definition c =
 pub returns-in-Pascal-clause-ok : goal.returns-in-Pascal-clause-ok
 returns-in-Pascal-clause-ok c =
     if_ok c.pascal_text.result
-    (λ code. parts-pascal (c.args.first, c.args.self.now) c.loop-code.code c.loop-code.self (Ok (code, c.pascal_text.new.self))
+    (λ code. parts-pascal (c.args.first, c.args.self.now) c.loop-code.code c.loop-code.self
+    (Ok (code, c.pascal_text.new.self))
     c.loop-code.invariant.still c.in-Pascal.is)
     c.pascal_text.ensures.ok
 
@@ -38,7 +41,8 @@ returns-in-Pascal-clause-fault c =
 pub returns-in-Name-clause-ok : goal.returns-in-Name-clause-ok
 returns-in-Name-clause-ok c =
     if_ok c.named_text.result
-    (λ code. parts-name (c.args.first, c.args.self.now) c.loop-code.code c.loop-code.self (Ok (code, c.named_text.new.self))
+    (λ code. parts-name (c.args.first, c.args.self.now) c.loop-code.code c.loop-code.self
+    (Ok (code, c.named_text.new.self))
     c.loop-code.invariant.still c.in-Name.is)
     c.named_text.ensures.ok
 
@@ -52,8 +56,10 @@ returns-in-Name-clause-fault c =
 pub returns-in-Section-clause-ok : goal.returns-in-Section-clause-ok
 returns-in-Section-clause-ok c =
     elim c.in-Section.is [
-      | inl section ↦ parts-section (c.args.first, c.args.self.now) c.loop-code.code c.loop-code.self c.loop-code.invariant.still section
-      | inr end ↦ parts-end (c.args.first, c.args.self.now) c.loop-code.code c.loop-code.self c.loop-code.invariant.still end
+      | inl section ↦ parts-section (c.args.first, c.args.self.now) c.loop-code.code c.loop-code.self
+          c.loop-code.invariant.still section
+      | inr end ↦ parts-end (c.args.first, c.args.self.now) c.loop-code.code c.loop-code.self
+          c.loop-code.invariant.still end
     ]
 
 pub loop-code-preserved : goal.loop-code-preserved

@@ -1,18 +1,19 @@
-use Rattle.std.proofs.Common.{◌≡◌, ◌≤◌, ◌∙◌, sym, ap, Some, Ok, Err, length, arith}
+use Rattle.std.proofs.Common.{◌∙◌, sym, ap, Some, Ok, Err, arith}
 use Rattle.web_lex.specs.declared.tokens.Lexed.{Lexed}
 use Rattle.web_lex.specs.Token.{token_of}
 use Rattle.web_scan.specs.Texts.{stored_since}
-use Rattle.web_scan.specs.inner.Open.{IsOpen}
 use Rattle.web_scan.proofs.ResultLemmas.{if_ok, if_fault, handed_on}
 use Rattle.web_scan.proofs.StepsLemmas.{same_rest}
-use Rattle.web_scan.proofs.SectionsLemmas.{section_text-fault, section_text-more, section_text-refuses, section_text-used}
+use Rattle.web_scan.proofs.SectionsLemmas.{section_text-fault, section_text-more, section_text-refuses}
+use Rattle.web_scan.proofs.SectionsLemmas.{section_text-used}
 use Rattle.web_scan.proofs.SectionsLemmas.{section_text-unused, section_text-ends, open_after_name}
 use Rattle.web_scan.proofs.scanner.Scanner.section_text.Goals as goal
 
 pub returns-in_err-token-clause-fault : goal.returns-in_err-token-clause-fault
 returns-in_err-token-clause-fault c =
     handed_on Lexed c.from_residual.result c.in_err-token.field-0.0 c.from_residual.ensures.1
-    (λ fault. section_text-fault c.args.text.now.first c.args.self.now c.loop-token.self fault c.loop-token.invariant.still)
+    (λ fault. section_text-fault c.args.text.now.first c.args.self.now c.loop-token.self fault
+    c.loop-token.invariant.still)
     c.in_err-token.ensures.fault
 
 pub loop-token-preserved-in-Continue-branch-2 : goal.loop-token-preserved-in-Continue-branch-2
@@ -22,7 +23,8 @@ loop-token-preserved-in-Continue-branch-2 c =
     let same = same_rest c.text_token.new.self.reading c.token.new.self.reading c.text_token.ensures.reading in
     record {
       still = section_text-more c.loop-token.text.class text.first c.loop-token.text.first c.args.self.now
-          c.loop-token.self c.token.new.self c.text_token.new.self (token_of c.in_ok-token.token) inv.still inv.class inv.first
+          c.loop-token.self c.token.new.self c.text_token.new.self
+          (token_of c.in_ok-token.token) inv.still inv.class inv.first
           c.in_ok-token.ensures.ok c.in_ok-token.ensures.shorter (sym c.ending_code.ensures ∙ c.in-None.is)
           c.in_ok-text_token-in-None.ensures.ok c.text_token.ensures.reading;
       opened = c.in_ok-text_token-in-None.ensures.open;

@@ -1,4 +1,3 @@
-use Rattle.std.proofs.Common.{◌≡◌, Ok, Err}
 use Rattle.web_lex.specs.declared.codes.Code.{Code}
 use Rattle.web_scan.proofs.ResultLemmas.{handed_on}
 use Rattle.web_scan.proofs.CodesLemmas.{sections-section, sections-refused, sections-end, sections-passed}
@@ -11,7 +10,8 @@ returns-in-End-clause-ok c =
 pub returns-in_err-code-in-Section-clause-fault : goal.returns-in_err-code-in-Section-clause-fault
 returns-in_err-code-in-Section-clause-fault c =
     handed_on Code c.from_residual.result c.in_err-code-in-Section.field-0.0 c.from_residual.ensures.1
-    (λ fault. sections-refused (c.args.first, c.args.self.now) c.loop-code.code c.loop-code.self fault c.loop-code.invariant
+    (λ fault. sections-refused (c.args.first, c.args.self.now) c.loop-code.code c.loop-code.self fault
+    c.loop-code.invariant
     c.in-Section.is)
     c.in_err-code-in-Section.ensures.fault
 

@@ -1,7 +1,7 @@
-use Rattle.std.proofs.Common.{◌≡◌, ◌<◌, ◌≤◌, length, Ok, arith}
+use Rattle.std.proofs.Common.{◌≡◌, Ok, arith}
 use Rattle.web_lex.specs.Token.{sign}
 use Rattle.web_scan.specs.Scanned.{place_of_last}
-use Rattle.web_scan.specs.Texts.{sign_token, token_stored, still_open, stored_since}
+use Rattle.web_scan.specs.Texts.{sign_token, token_stored}
 use Rattle.web_scan.proofs.TextsLemmas.{is_stored, still_open-le}
 use Rattle.web_scan.proofs.scanner.Scanner.text_token.Goals as goal
 
