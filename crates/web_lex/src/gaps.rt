@@ -16,6 +16,7 @@ pub(crate) fn skip_gaps(cursor: &mut Cursor<'_>) -> Result<(), Fault>
     ensures gaps { after_gaps (length cursor.old.rest) cursor.old.end cursor.old.rest
         ≡ rest_of result cursor.new.rest }
     ensures none_left { OnOk result (gap_at cursor.new.end cursor.new.rest ≡ Ok None) }
+    ensures not_longer { OnOk result (length cursor.new.rest ≤ length cursor.old.rest) }
     ensures end { cursor.new.end ≡ cursor.old.end }
 {
     while skip_gap(cursor)? {}

@@ -42,7 +42,8 @@ pub(crate) fn text_size(kind: Delimiter, bytes: &[u8]) -> Result<usize, u16>
 fn part_at(kind: Delimiter, bytes: &[u8]) -> Part
     requires { 0 < length bytes.now }
     ensures { text_size (delimiter_of kind) bytes.now
-        ≡ size_from (part_view result) (text_size (delimiter_of kind) (drop 1 bytes.now)) (text_size (delimiter_of kind) (drop 2 bytes.now)) }
+        ≡ size_from (part_view result) (text_size (delimiter_of kind) (drop 1 bytes.now))
+        (text_size (delimiter_of kind) (drop 2 bytes.now)) }
 {
     match bytes {
         [] => unreachable!(),

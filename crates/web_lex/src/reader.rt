@@ -1,8 +1,8 @@
 //! The reader of a web's tokens.
-ghost use Rattle.std.specs.Prelude.{◌≡◌, ◌<◌, Ok, Err, None, IfOk, IfErr, OnErr, length, slice_get};
+ghost use Rattle.std.specs.Prelude.{◌≡◌, ◌≢◌, ◌<◌, ◌≤◌, Ok, Err, None, IfOk, OnOk, IfErr, OnErr, length, slice_get};
 ghost use Rattle.wb_base.specs.WorkResult.{IfFault};
 ghost use Rattle.wb_base.specs.declared.faults.WorkErr.TheVariants.{OutOfMemory};
-ghost use Rattle.web_lex.specs.Token.{token_of};
+ghost use Rattle.web_lex.specs.Token.{token_of, end_of_input};
 ghost use Rattle.web_lex.specs.Gaps.{gap_at};
 ghost use Rattle.web_lex.specs.Reading.{token_at, first_token, begins_exponent};
 ghost use Rattle.web_lex.specs.inner.Reads.{read_of};
@@ -68,6 +68,8 @@ impl<'l> Reader<'l> {
     pub fn skip_ahead(&mut self) -> Code
         ensures code { result ≡ (skipped self.old).0 }
         ensures after { self.new ≡ (skipped self.old).1 }
+        ensures shorter { result ≢ Code.End → length self.new.rest < length self.old.rest }
+        ensures not_longer { length self.new.rest ≤ length self.old.rest }
     {
         if self.fault.is_some() {
             return Code::End;
@@ -97,6 +99,9 @@ impl<'l> Reader<'l> {
         ensures ok { IfOk result (λ lexed. next_token self.old ≡ Ok (token_of lexed, self.new)) }
         ensures fault { IfErr result (λ fault. next_token self.old ≡ Err fault) }
         ensures after_fault { IfErr result (λ fault. self.new ≡ after_fault self.old fault) }
+        ensures shorter { IfOk result (λ lexed. token_of lexed ≢ end_of_input
+            → length self.new.rest < length self.old.rest) }
+        ensures not_longer { length self.new.rest ≤ length self.old.rest }
     {
         match self.read() {
             Ok(token) => Ok(token),
@@ -116,6 +121,7 @@ impl<'l> Reader<'l> {
         ensures fault { IfFault result (λ fault. next_name self.old ≡ Err fault) }
         ensures after_fault { IfFault result (λ fault. self.new ≡ after_fault self.old fault) }
         ensures out_of_memory { result ≡ Err OutOfMemory → self.new ≡ self.old }
+        ensures not_longer { length self.new.rest ≤ length self.old.rest }
     {
         match self.read_name(alloc) {
             Ok(name) => Ok(name),
@@ -141,6 +147,9 @@ impl<'l> Reader<'l> {
         ensures ok { IfOk result (λ lexed. next_token self.old ≡ Ok (token_of lexed, self.new)) }
         ensures fault { IfErr result (λ fault. next_token self.old ≡ Err fault) }
         ensures after_fault { IfErr result (λ _. self.new ≡ self.old) }
+        ensures shorter { IfOk result (λ lexed. token_of lexed ≢ end_of_input
+            → length self.new.rest < length self.old.rest) }
+        ensures not_longer { length self.new.rest ≤ length self.old.rest }
     {
         if let Some(fault) = self.fault {
             return Err(fault);
@@ -162,6 +171,7 @@ impl<'l> Reader<'l> {
         ensures ok { IfOk result (λ name. next_name self.old ≡ Ok (name, self.new)) }
         ensures fault { IfFault result (λ fault. next_name self.old ≡ Err fault) }
         ensures err { OnErr result (self.new ≡ self.old) }
+        ensures not_longer { length self.new.rest ≤ length self.old.rest }
     {
         if let Some(fault) = self.fault {
             return Err(WorkErr::Fault(fault));
@@ -200,6 +210,9 @@ struct Read<'l> {
 // Reads the next token, where a digit stands directly before it or not.
 fn read_token<'l>(cursor: &mut Cursor<'l>, after_digit: bool) -> Result<Read<'l>, Fault>
     ensures token { token_at cursor.old.end after_digit cursor.old.rest ≡ read_of result cursor.new.rest }
+    ensures shorter { IfOk result (λ read. token_of read.token ≢ end_of_input
+        → length cursor.new.rest < length cursor.old.rest) }
+    ensures not_longer { OnOk result (length cursor.new.rest ≤ length cursor.old.rest) }
     ensures end { cursor.new.end ≡ cursor.old.end }
 {
     if after_digit && begins_exponent(cursor) {
@@ -220,6 +233,9 @@ fn begins_exponent(cursor: &Cursor<'_>) -> bool
 fn read_first<'l>(cursor: &mut Cursor<'l>) -> Result<Read<'l>, Fault>
     requires { gap_at cursor.old.end cursor.old.rest ≡ Ok None }
     ensures token { first_token cursor.old.end cursor.old.rest ≡ read_of result cursor.new.rest }
+    ensures shorter { IfOk result (λ read. token_of read.token ≢ end_of_input
+        → length cursor.new.rest < length cursor.old.rest) }
+    ensures not_longer { length cursor.new.rest ≤ length cursor.old.rest }
     ensures end { cursor.new.end ≡ cursor.old.end }
 {
     let place = cursor.place();

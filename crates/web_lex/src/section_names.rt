@@ -38,6 +38,7 @@ struct Spelling {
 pub(crate) fn read_name(cursor: &mut Cursor<'_>, alloc: Global) -> Result<SectionName, WorkErr>
     ensures ok { IfOk result (λ name. name_at cursor.old.end cursor.old.rest ≡ Ok (name, cursor.new.rest)) }
     ensures fault { IfFault result (λ fault. name_at cursor.old.end cursor.old.rest ≡ Err fault) }
+    ensures not_longer { length cursor.new.rest ≤ length cursor.old.rest }
     ensures end { cursor.new.end ≡ cursor.old.end }
 {
     let mut spelling = Spelling {
@@ -55,6 +56,7 @@ fn spell(cursor: &mut Cursor<'_>, spelling: &mut Spelling) -> Result<Place, Work
         ≡ Ok (record { bytes = spelling.new.text; end = end; rest = cursor.new.rest })) }
     ensures fault { IfFault result (λ fault.
         spelled_after spelling.old.text spelling.old.blank cursor.old.end cursor.old.rest ≡ Err fault) }
+    ensures not_longer { length cursor.new.rest ≤ length cursor.old.rest }
     ensures end { cursor.new.end ≡ cursor.old.end }
 {
     while let Some(byte) = cursor.first() {

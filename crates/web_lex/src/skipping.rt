@@ -1,5 +1,5 @@
 //! Passing text up to a control code.
-ghost use Rattle.std.specs.Prelude.{◌≡◌, ◌<◌, ◌≤◌, [], Some, IfNone, length};
+ghost use Rattle.std.specs.Prelude.{◌≡◌, ◌<◌, ◌≤◌, [], Some, IfNone, IfSome, length};
 ghost use Rattle.web_lex.specs.SkipAhead.{next_code};
 ghost use Rattle.web_lex.specs.inner.Ahead.{first_byte};
 ghost use Rattle.web_lex.specs.inner.Steps.{found_with, found_after};
@@ -13,6 +13,7 @@ use wb_base::Place;
 pub(crate) fn find_code(cursor: &mut Cursor<'_>) -> Option<(Code, Place)>
     ensures code { next_code cursor.old.rest ≡ found_with result cursor.new.rest }
     ensures none { IfNone result (cursor.new.rest ≡ []) }
+    ensures shorter { IfSome result (λ _. length cursor.new.rest < length cursor.old.rest) }
     ensures end { cursor.new.end ≡ cursor.old.end }
     ensures not_longer { length cursor.new.rest ≤ length cursor.old.rest }
 {

@@ -3,6 +3,7 @@ use crate::{Code, Lexed, Reader, control_code};
 use change_merge::{Lines, merge, parse_changes};
 use std::alloc::Global;
 use std::test::Fail;
+use wb_base::faults::STRAY_END;
 use wb_base::{Fault, FileTag, Joined, OutOfMemory, Place, Text, WorkErr};
 
 // A web with its change file, and its tokens up to the end or a fault, each with its line.
@@ -22,7 +23,8 @@ fn reads_tokens(rt: HostRuntime) -> Result<(), Fail> {
         Tokens { web: b"a\n\n\t{b{@}}\\}\nc}@!9", change: b"", shown: b"w1 letter a|w4 digit 9|w4 end|" },
         Tokens { web: b"(.@@ @'17 @\"F @d@<", change: b"",
             shown: b"w1 sign [|w1 sign @|w1 based 15|w1 based 15|w1 code|w1 code|w1 end|" },
-        Tokens { web: b"'it''s'\"\"\"\"@=x@@@>", change: b"", shown: b"w1 quoted it''s|w1 pool \"\"|w1 verbatim x@@|w1 end|" },
+        Tokens { web: b"'it''s'\"\"\"\"@=x@@@>", change: b"",
+            shown: b"w1 quoted it''s|w1 pool \"\"|w1 verbatim x@@|w1 end|" },
         Tokens { web: b"a\nb\nc", change: b"@x\nb\n@y\n{\x7f\n}\x7f\n@z", shown: b"w1 letter a|F8 c5|" },
         Tokens { web: b"a\nb", change: b"@x\nb\n@y\n\n{@ }\n@z", shown: b"w1 letter a|F9 c5|" },
         Tokens { web: b"{a\n}{", change: b"", shown: b"F9 w2|" },
@@ -77,7 +79,7 @@ fn skips_ahead(rt: HostRuntime) -> Result<(), Fail> {
     assert_eq!(rt; reader.place(), web_line(0));
     assert_eq!(rt; reader.skip_ahead(), Code::Definition);
     assert_eq!(rt; reader.place(), web_line(2));
-    let fault = Fault::at(13, web_line(2));
+    let fault = Fault::at(STRAY_END, web_line(2));
     assert_eq!(rt; reader.next(), Err(fault));
     assert_eq!(rt; reader.next(), Err(fault));
     assert!(rt; matches!(reader.section_name(rt.alloc()), Err(WorkErr::Fault(_))));

@@ -18,7 +18,7 @@ use Rattle.web_names.specs.SectionNames.{whole_name, prefix_name}
 use Rattle.web_scan.specs.Definitions.{is_sign, is_same, definition}
 use Rattle.web_scan.specs.Limits.{unless_refused, stored, section_begun}
 use Rattle.web_scan.specs.Scanned.{Scanned, Scanning, with_text_under, place_of_last, token_read, code_found, most_tokens}
-use Rattle.web_scan.specs.Texts.{TextRead, ended_text, text_token, stored_since}
+use Rattle.web_scan.specs.Texts.{TextRead, ended_text, text_token}
 
 -- a prefix stands for a name that was seen before it; a whole name is seen now. The place of the name, and the web
 -- after it
@@ -44,7 +44,8 @@ section_used scanning = do
   web ← stored (place_of_last named) (tok.Section found) named.web
   Ok (record named { web = web })
 
--- a section's text from a token on: a section start or the end of the input ends it; a definition, a format or `@p` may
+-- a section's text from a token on: a section start or the end of the input ends it; a definition, a format or `@p`
+-- may
 -- not stand in it; the name of a section and all else is one more of its tokens, and then comes what is read further
 abbrev pub section_text_from : ℕ → Token → Scanning → (Scanning → TextRead) → TextRead
 section_text_from first end_of_input scanning further =
@@ -62,7 +63,7 @@ section_text_from first other scanning further = text_token class.Ordinary first
 
 -- the text of a section, which began after so many tokens and has no more than this number of them from here on
 unfoldable pub section_text : ℕ → ℕ → Scanning → TextRead
-section_text zero first scanning = Ok (stored_since first scanning.web, code.End, scanning)
+section_text zero first scanning = ended_text first scanning >>= (λ text. Ok (text, code.End, scanning))
 section_text (suc most) first scanning =
     token_read scanning >>= (λ read. section_text_from first read.0 read.1 (section_text most first))
 
@@ -73,7 +74,8 @@ with_pascal_text None text web =
 with_pascal_text (Some name) text web =
     record web { named = with_text_under name (record { number = web.count; text = text }) web.named }
 
--- the Pascal text of a section, which stands under this name, or belongs to the unnamed section; the code that ends it,
+-- the Pascal text of a section, which stands under this name, or belongs to the unnamed section; the code that ends
+-- it,
 -- and the web after that
 unfoldable pub pascal_text : Option ℕ → Scanning → Result (Code × Scanning) Fault
 pascal_text name scanning = do

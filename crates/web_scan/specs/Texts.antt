@@ -127,7 +127,7 @@ macro_text_from kind first token scanning further None = text_token kind first t
 -- the text of a macro of this class, which began after so many tokens and has no more than this number of them from
 -- here on
 unfoldable pub macro_text : ℕ → Class → ℕ → Scanning → TextRead
-macro_text zero kind first scanning = Ok (stored_since first scanning.web, code.End, scanning)
+macro_text zero kind first scanning = ended_text first scanning >>= (λ text. Ok (text, code.End, scanning))
 macro_text (suc most) kind first scanning =
     token_read scanning
     >>= (λ read. macro_text_from kind first read.0 read.1 (macro_text most kind first) (ending_code read.0))
