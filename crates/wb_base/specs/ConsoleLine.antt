@@ -19,7 +19,7 @@ use Rattle.wb_base.specs.declared.faults.TheConstants.{CHECK_SUM_LEFT_OUT, BAD_P
 use Rattle.wb_base.specs.declared.faults.TheConstants.{PASCAL_SYNTAX, PASCAL_LEFT_OUT, UNKNOWN_NAME, DUPLICATE_NAME}
 use Rattle.wb_base.specs.declared.faults.TheConstants.{WRONG_TYPE, CONSTANT_OUT_OF_RANGE, WRONG_LABEL, WRONG_GOTO}
 use Rattle.wb_base.specs.declared.faults.TheConstants.{TOO_LARGE, FILE_RULE, RESULT_NEVER_ASSIGNED, BAD_C_TOKEN}
-use Rattle.wb_base.specs.declared.faults.TheConstants.{C_SYNTAX, C_STRUCTURE, NOT_BUILT_YET, LIMIT_FILE_BYTES}
+use Rattle.wb_base.specs.declared.faults.TheConstants.{C_SYNTAX, C_STRUCTURE, LIMIT_FILE_BYTES}
 use Rattle.wb_base.specs.declared.faults.TheConstants.{LIMIT_NAMES, LIMIT_SECTION_NAMES, LIMIT_TOKENS, LIMIT_STRINGS}
 use Rattle.wb_base.specs.declared.faults.TheConstants.{LIMIT_SECTIONS, REAL_NUMBERS, VARIANT_RECORDS, NESTED_ROUTINES}
 use Rattle.wb_base.specs.declared.faults.TheConstants.{ENUMERATIONS, SETS, POINTERS, WITH_STATEMENTS}
@@ -93,7 +93,6 @@ fault_texts =
     ∷ (BAD_C_TOKEN, codes "bad token")
     ∷ (C_SYNTAX, codes "syntax")
     ∷ (C_STRUCTURE, codes "structure")
-    ∷ (NOT_BUILT_YET, codes "not built yet")
     ∷ []
 
 -- the names of the limits

@@ -68,7 +68,6 @@ pub(crate) fn fault_text(code: u16) -> &'static [u8]
         faults::BAD_C_TOKEN => b"bad token",
         faults::C_SYNTAX => b"syntax",
         faults::C_STRUCTURE => b"structure",
-        faults::NOT_BUILT_YET => b"not built yet",
         _ => b"",
     }
 }

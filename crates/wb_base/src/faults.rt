@@ -126,8 +126,6 @@ pub const BAD_C_TOKEN: u16 = 70;
 pub const C_SYNTAX: u16 = 71;
 /// A C file out of its structure.
 pub const C_STRUCTURE: u16 = 72;
-/// A web of a form that is not built yet.
-pub const NOT_BUILT_YET: u16 = 90;
 
 /// The limit of a file's bytes.
 pub const LIMIT_FILE_BYTES: u8 = 1;

@@ -1,7 +1,7 @@
 //! What no clause shows: that the calls find memory, and the texts of faults beside values worked out by hand.
 use crate::faults::{
     C_STRUCTURE, CHANGE_NOT_FOUND, LIMIT_FILE_BYTES, LIMIT_NAMES, LIMIT_PASSED, LIMIT_STRINGS,
-    LINE_TOO_LONG, NESTING_PAST_LIMIT, NOT_BUILT_YET, PASCAL_LEFT_OUT, SETS, STRAY_END, TOO_LARGE,
+    LINE_TOO_LONG, NESTING_PAST_LIMIT, PASCAL_LEFT_OUT, SETS, STRAY_END, TOO_LARGE,
 };
 use crate::{Fault, FileTag, Place, Text, Words};
 use std::test::Fail;
@@ -27,7 +27,6 @@ fn reports_faults(rt: HostRuntime) -> Result<(), Fail> {
         Row { fault: (PASCAL_LEFT_OUT, SETS), line: 2, text: b"! t.web:2: left out: set (F53)" },
         Row { fault: (PASCAL_LEFT_OUT, NESTING_PAST_LIMIT), line: 2, text: b"! t.web:2: left out: nesting (F53)" },
         Row { fault: (C_STRUCTURE, 0), line: 1, text: b"! t.web:1: structure (F72)" },
-        Row { fault: (NOT_BUILT_YET, 0), line: 16, text: b"! t.web:16: not built yet (F90)" },
         // no such fault
         Row { fault: (44, 1), line: 1, text: b"! t.web:1:  (F44)" },
     ];
