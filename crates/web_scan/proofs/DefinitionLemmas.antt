@@ -1,5 +1,5 @@
 -- Definitions, a step at a time.
-use Rattle.std.proofs.Common.{◌≡◌, ◌≢◌, ℕ, List, Bor, Result, Ok, Err, refl, sym, ap, ◌∙◌}
+use Rattle.std.proofs.Common.{◌≡◌, ℕ, List, Bor, Result, Ok, Err, refl, sym, ap, ◌∙◌}
 use Rattle.wb_base.specs.declared.faults.Fault.{Fault}
 use Rattle.wb_base.specs.declared.faults.TheConstants.{BAD_DEFINITION}
 use Rattle.wb_base.specs.declared.places.Place.{Place}

@@ -1,10 +1,10 @@
 -- The sum of a right side, a term at a time.
-use Rattle.std.proofs.Common.{◌≡◌, ℕ, ℤ, Bool, true, false, List, [], ◌∷◌, Option, Some, None, Result, Ok, Err, refl}
-use Rattle.std.proofs.Common.{sym, ap, ◌∙◌, subst}
-use Rattle.std.specs.Prelude.{pos, neg_ℤ, ◌+ℤ◌, ◌*ℤ◌, not, IsOkAnd}
+use Rattle.std.proofs.Common.{◌≡◌, ℕ, ℤ, Bool, true, false, List, ◌∷◌, None, refl}
+use Rattle.std.proofs.Common.{ap, ◌∙◌}
+use Rattle.std.specs.Prelude.{neg_ℤ, ◌+ℤ◌, ◌*ℤ◌, not, IsOkAnd}
 use Rattle.wb_base.specs.declared.places.Place.{Place}
 use Rattle.web_scan.specs.declared.numeric.Sum.{Sum}
-use Rattle.web_scan.specs.Numeric.{Term, plus, minus, digits, constant, product_of_signs, sum_of, with_sign}
+use Rattle.web_scan.specs.Numeric.{Term, plus, minus, constant, product_of_signs, with_sign}
 use Rattle.web_scan.specs.inner.StandsFor.{sign_of, IsTotalOf, StandsFor}
 
 -- one more constant

@@ -1,5 +1,5 @@
 -- Loops that read what a definition with a bound on its steps reads.
-use Rattle.std.proofs.Common.{◌≡◌, ◌≢◌, ℕ, zero, suc, ◌+◌, ◌<◌, ◌≤◌, Result, length, refl, ap, ◌∙◌, arith}
+use Rattle.std.proofs.Common.{◌≡◌, ◌≢◌, ℕ, zero, suc, ◌<◌, ◌≤◌, Result, length, refl, ap, ◌∙◌, arith}
 use Rattle.wb_base.specs.declared.faults.Fault.{Fault}
 use Rattle.web_lex.specs.Reading.{Reading}
 use Rattle.web_lex.specs.Token.{Token, end_of_input}

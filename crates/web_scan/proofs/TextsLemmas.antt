@@ -1,14 +1,14 @@
 -- The texts of macros and sections, a token at a time.
-use Rattle.std.proofs.Common.{◌≡◌, ◌≢◌, ℕ, zero, suc, ◌+◌, ◌-◌, ◌<◌, ◌≤◌, ◌==◌, ◌⊎◌, Bool, true, false, List, [], ◌∷◌}
+use Rattle.std.proofs.Common.{◌≡◌, ◌≢◌, ℕ, suc, ◌+◌, ◌-◌, ◌<◌, ◌≤◌, ◌==◌, Bool, true, false, List, [], ◌∷◌}
 use Rattle.std.proofs.Common.{◌++◌}
-use Rattle.std.proofs.Common.{length, drop, Option, Some, None, Result, Ok, Err, refl, sym, ap, ◌∙◌, arith}
-use Rattle.std.proofs.Common.{length-append, length-drop}
-use Rattle.std.specs.Prelude.{nat_lt, fold, pos, if◌then◌else◌}
+use Rattle.std.proofs.Common.{length, drop, Some, None, Result, Ok, Err, refl, sym, ap, ◌∙◌, arith}
+use Rattle.std.proofs.Common.{length-drop}
+use Rattle.std.specs.Prelude.{nat_lt, fold, if◌then◌else◌}
 use Rattle.std.proofs.lemmas.Bool.{ltb-true}
 use Rattle.std.proofs.lemmas.List.{drop-append-le}
 use Rattle.std.proofs.lemmas.List.Sums.{fold-append}
 use Rattle.wb_base.specs.declared.faults.Fault.{Fault}
-use Rattle.wb_base.specs.declared.faults.TheConstants.{LIMIT_NAMES, LIMIT_TOKENS}
+use Rattle.wb_base.specs.declared.faults.TheConstants.{LIMIT_TOKENS}
 use Rattle.wb_base.specs.declared.places.Place.{Place}
 use Rattle.wb_base.specs.declared.tokens.Tok.{Tok}
 use Rattle.wb_base.specs.declared.tokens.Tok.TheVariants as tok
@@ -19,7 +19,7 @@ use Rattle.web_lex.specs.Token.{Token, end_of_input}
 use Rattle.web_scan.proofs.StepsLemmas.{StillReads, scanning_stops, scanning_more, same_rest}
 use Rattle.web_names.specs.declared.classes.Class.{Class}
 use Rattle.web_scan.specs.declared.limits.TheConstants.{TOKEN_LIMIT}
-use Rattle.web_scan.specs.Limits.{stored, with_room}
+use Rattle.web_scan.specs.Limits.{stored}
 use Rattle.web_scan.specs.Scanned.{Scanned, Scanning, token_read, most_tokens}
 use Rattle.web_scan.specs.Texts.{opened_after, still_open, stored_since, text_token, ended_text, ending_code}
 use Rattle.web_scan.specs.Texts.{TextRead, macro_text, macro_text_from}

@@ -1,7 +1,7 @@
 -- The value of a word in a numeric definition, by what a use of the word gives.
-use Rattle.std.proofs.Common.{◌≡◌, ◌≢◌, ℕ, ℤ, ◌<◌, ◌≤◌, ◌⊎◌, inl, inr, Bool, true, false, List, [], ◌∷◌, ◌++◌, map}
+use Rattle.std.proofs.Common.{◌≡◌, ◌≢◌, ℕ, ℤ, inl, inr, Bool, true, false, List, [], ◌∷◌, ◌++◌, map}
 use Rattle.std.proofs.Common.{length}
-use Rattle.std.proofs.Common.{Option, Some, None, Result, Ok, Err, refl, sym, ap, ◌∙◌, arith}
+use Rattle.std.proofs.Common.{Option, Some, None, Result, Ok, Err, refl, sym, ap, ◌∙◌}
 use Rattle.std.specs.Prelude.{slice_get, pos, ◌==◌, if◌then◌else◌, option_map}
 use Rattle.std.proofs.lemmas.Bool.{ne_eqb, cases_lt}
 use Rattle.std.proofs.lemmas.Bool.Decides.{eqb_tells}
@@ -14,8 +14,7 @@ use Rattle.web_names.specs.declared.name_errors.NameErr.{NameErr}
 use Rattle.web_names.specs.declared.name_errors.NameErr.TheVariants as refusal
 use Rattle.web_names.specs.Refusals.{IfRefused}
 use Rattle.web_names.specs.Identifiers.{Name, Identifiers, id_of, is_numeric, is_in_conflict, new_name, with_name}
-use Rattle.web_names.specs.Identifiers.{used, used_at, name_limit}
-use Rattle.wb_base.specs.declared.faults.Fault.{Fault}
+use Rattle.web_names.specs.Identifiers.{used, name_limit}
 use Rattle.wb_base.specs.declared.faults.WorkErr.{WorkErr}
 use Rattle.wb_base.specs.declared.faults.WorkErr.TheVariants.{Fault as of_input}
 use Rattle.wb_base.specs.declared.faults.TheConstants.{BAD_NUMERIC_DEFINITION}

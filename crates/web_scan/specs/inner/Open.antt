@@ -1,5 +1,5 @@
 -- Texts that are read.
-use Rattle.std.specs.Prelude.{ℕ, ◌≡◌, ◌≤◌, length}
+use Rattle.std.specs.Prelude.{◌≡◌, ◌≤◌, length}
 use Rattle.web_scan.specs.declared.texts.OpenText.{OpenText}
 use Rattle.web_scan.specs.Scanned.{Scanned}
 use Rattle.web_scan.specs.Texts.{still_open, stored_since}

@@ -1,5 +1,5 @@
 -- How the right side of a numeric definition is added up as it is read.
-use Rattle.std.specs.Prelude.{ℕ, ℤ, pos, neg_ℤ, ◌≡◌, Bool, true, false, if◌then◌else◌, List, [], ◌∷◌, Option, Some}
+use Rattle.std.specs.Prelude.{ℕ, ℤ, pos, neg_ℤ, ◌≡◌, Bool, true, false, List, ◌∷◌, Option, Some}
 use Rattle.std.specs.Prelude.{None}
 use Rattle.web_scan.specs.declared.numeric.Sum.{Sum}
 use Rattle.web_lex.specs.declared.codes.Code.{Code}
