@@ -144,10 +144,10 @@ pub macro_text-step :
     → (token ≢ end_of_input → length read.reading.rest < length now.reading.rest)
     → ending_code token ≡ None → text_token kind' first' token read ≡ Ok next → next.reading ≡ read.reading
     → StillReads most_tokens (λ most. macro_text most kind first) start next
-macro_text-step kind kind' first first' start now read next token still same_kind same_first is shorter none stores same =
+macro_text-step kind kind' first first' start now read next token still same_kind same_first is less none stores same =
     let stores' = ap (λ kind. text_token kind first token read) (sym same_kind)
     ∙ ap (λ first. text_token kind' first token read) (sym same_first) ∙ stores in
-    scanning_more (λ most. macro_text most kind first) start now read next token still (not_end token none) shorter
+    scanning_more (λ most. macro_text most kind first) start now read next token still (not_end token none) less
     (same_rest next.reading read.reading same)
     (λ left. macro_text-more kind first now read next token left is none stores')
 

@@ -109,7 +109,8 @@ value-refused defining options word names error refused memory =
 -- what is answered for a word without a value
 pub none_refused :
     (T : Type 0) (r : Result T WorkErr) (place : Place) (defining : ℕ) (word : List ℕ) (names now : List Name)
-    → names ≡ now → word_value defining (id_of word names) names ≡ None → r ≡ Err (of_input (fault_at BAD_NUMERIC_DEFINITION place))
+    → names ≡ now → word_value defining (id_of word names) names ≡ None
+    → r ≡ Err (of_input (fault_at BAD_NUMERIC_DEFINITION place))
     → IfFault r (λ fault.
     (terms : List Term) → with_constant place (word_value defining (id_of word now) now) terms ≡ Err fault)
 none_refused T r place defining word names now same none is =

@@ -83,7 +83,7 @@ impl Sum {
         Ok(())
     }
 
-    // Adds a digit, unless its number is then too big.
+    // Adds a digit, unless its number is then too big. A byte below the digits, which none is, would count as 0.
     fn add_digit(&mut self, place: Place, byte: u8) -> Result<(), Fault>
         ensures ok { OnOk result ((terms : List Term) → StandsFor self.old terms
             → IsOkAnd (with_digit place byte terms) (StandsFor self.new)) }
