@@ -77,7 +77,8 @@ abbrev pub value_given : ℕ → ℤ → Scanned → Scanned
 value_given id value web =
     record web { names = record web.names { names = with_value id value web.names.names } }
 
--- the right side of the macro with this id and class, whose name stands at this place: a numeric macro gets its value,
+-- the right side of the macro with this id and class, whose name stands at this place: a numeric macro gets its
+-- value,
 -- the others the number of their text. The code that ends it, and the web after that
 abbrev pub right_side_read : Place → ℕ → Class → Scanning → Result (Code × Scanning) Fault
 right_side_read at_name id class.Numeric scanning = do

@@ -1,10 +1,13 @@
 pub use Rattle.wb_base.specs.FaultAt
 pub use Rattle.wb_base.specs.WorkResult
 pub mod Definitions
+pub mod Lawful
 pub mod Limits
 pub mod Numeric
+pub mod Pieces
 pub mod Scan
 pub mod Scanned
 pub mod Sections
 pub mod Texts
 pub mod ScanRows
+pub mod inner

@@ -16,7 +16,8 @@ pub record PascalText : Type 0 where
   pub number : ℕ
   pub text : List Tok
 
--- what the web gives so far. Numbers in tokens, and the text number that is a macro's value, are places in these lists
+-- what the web gives so far. Numbers in tokens, and the text number that is a macro's value, are places in these
+-- lists
 pub record Scanned : Type 0 where
   -- the identifiers, in the order of their first use
   pub names : Identifiers

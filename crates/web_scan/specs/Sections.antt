@@ -44,7 +44,8 @@ section_used scanning = do
   web ← stored (place_of_last named) (tok.Section found) named.web
   Ok (record named { web = web })
 
--- a section's text from a token on: a section start or the end of the input ends it; a definition, a format or `@p` may
+-- a section's text from a token on: a section start or the end of the input ends it; a definition, a format or `@p`
+-- may
 -- not stand in it; the name of a section and all else is one more of its tokens, and then comes what is read further
 abbrev pub section_text_from : ℕ → Token → Scanning → (Scanning → TextRead) → TextRead
 section_text_from first end_of_input scanning further =
@@ -73,7 +74,8 @@ with_pascal_text None text web =
 with_pascal_text (Some name) text web =
     record web { named = with_text_under name (record { number = web.count; text = text }) web.named }
 
--- the Pascal text of a section, which stands under this name, or belongs to the unnamed section; the code that ends it,
+-- the Pascal text of a section, which stands under this name, or belongs to the unnamed section; the code that ends
+-- it,
 -- and the web after that
 unfoldable pub pascal_text : Option ℕ → Scanning → Result (Code × Scanning) Fault
 pascal_text name scanning = do

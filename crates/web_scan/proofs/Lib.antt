@@ -1,0 +1,4 @@
+mod NamesLemmas
+mod PartsLemmas
+mod StringsLemmas
+mod UnderLemmas

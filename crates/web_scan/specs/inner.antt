@@ -1,0 +1,6 @@
+-- What private contracts say. No contract of a public call cites this.
+pub mod Doubled
+pub mod Open
+pub mod PartsView
+pub mod Refused
+pub mod Under

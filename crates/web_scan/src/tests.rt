@@ -1,0 +1,201 @@
+//! What no clause shows: that the scan finds memory, and webs beside values worked out by hand.
+use crate::{Piece, Web, scan};
+use change_merge::{lines, merge, parse_changes};
+use std::alloc::Global;
+use std::test::Fail;
+use wb_base::faults::{
+    LIMIT_NAMES, LIMIT_PASSED, LIMIT_SECTION_NAMES, LIMIT_SECTIONS, LIMIT_STRINGS, LIMIT_TOKENS,
+};
+use wb_base::{Case, FileTag, Options, OutOfMemory, Text, Tok, WorkErr};
+use web_names::Class;
+
+const BY_DEFAULT: Options = Options {
+    length: 32,
+    underline: false,
+    case: Case::Mixed,
+    strict: false,
+};
+
+// The scan of a web with this text.
+fn scan_text(alloc: Global, text: &[u8], options: Options) -> Result<Web, WorkErr> {
+    let list = lines(alloc, FileTag::Web, text)?;
+    scan(alloc, &list, options)
+}
+
+// A web, and the number, the line and the limit of its first fault, or 0s.
+#[derive(Clone, Copy)]
+struct Faulty {
+    web: &'static [u8],
+    code: u16,
+    line: u32,
+}
+
+// The number and the line of the fault of a scan.
+fn fault_of(scanned: Result<Web, WorkErr>) -> (u16, u32, u8) {
+    match scanned {
+        Ok(_) => (0, 0, 0),
+        Err(WorkErr::OutOfMemory) => (99, 0, 0),
+        Err(WorkErr::Fault(fault)) => (fault.code, fault.line, fault.which),
+    }
+}
+
+#[test]
+fn tells_faults(rt: HostRuntime) -> Result<(), Fail> {
+    #[rattlefmt::skip]
+    let rows = [
+        Faulty { web: b"@ @p x\n'\t'", code: 8, line: 2 },
+        Faulty { web: b"@ @p {\nx @* y", code: 9, line: 2 },
+        Faulty { web: b"@ @p x\n'ab", code: 10, line: 2 },
+        Faulty { web: b"@ @p x\n'a@b'", code: 11, line: 2 },
+        Faulty { web: b"@ @p @<a\nb @*", code: 12, line: 2 },
+        Faulty { web: b"@ @p x\n}\n@d", code: 13, line: 2 },
+        Faulty { web: b"@ @p @^a\nb @p", code: 14, line: 2 },
+        Faulty { web: b"@ @d x\n=1", code: 16, line: 1 },
+        Faulty { web: b"@ @d\n2", code: 16, line: 2 },
+        Faulty { web: b"@ @d xx(#)\n=y", code: 16, line: 2 },
+        Faulty { web: b"@ @p xx_y\n@ @d\nab\nxxy=1", code: 16, line: 4 },
+        Faulty { web: b"@ @d nn=nn+1", code: 17, line: 1 },
+        Faulty { web: b"@ @d nn=1\n*2", code: 17, line: 2 },
+        Faulty { web: b"@ @d nn=214748364\n8\n}", code: 18, line: 2 },
+        Faulty { web: b"@ @d\nmm\n=-32768\n\n@<", code: 18, line: 2 },
+        Faulty { web: b"@ @d\nmm\n=-32768\n}", code: 13, line: 4 },
+        Faulty { web: b"@ @d mm=32767", code: 0, line: 0 },
+        Faulty { web: b"@ @p xx\n@ @d xx\n=\n}", code: 19, line: 3 },
+        Faulty { web: b"@ @d xx==y\n@d xx(#)\n==(", code: 20, line: 3 },
+        Faulty { web: b"@ @p foo_bar\nfoobar", code: 21, line: 2 },
+        Faulty { web: b"@ @p foo_bar\n@ @d foobar==x\n@p foobar", code: 0, line: 0 },
+        Faulty { web: b"@ @p (\n)\n)", code: 22, line: 3 },
+        Faulty { web: b"@ @d xx==(\n@<}", code: 22, line: 2 },
+        Faulty { web: b"@ @<A@>+\n@<", code: 23, line: 2 },
+        Faulty { web: b"@ @p (\n@f", code: 24, line: 2 },
+        Faulty { web: b"@ @p x\n@<Ini\n...@>@<Initialize@>", code: 25, line: 2 },
+        Faulty { web: b"@ @p @<Inner part@> @<Initialize@> @<In...@>", code: 26, line: 1 },
+        Faulty { web: b"@ @p @<Initial@>\n@<Initialize@>", code: 27, line: 2 },
+        Faulty { web: b"@ @d xx=1\n2e", code: 35, line: 2 },
+        Faulty { web: b"@ @d xx==1\n@$", code: 43, line: 2 },
+    ];
+    for (index, row) in rows.iter().enumerate() {
+        let told = fault_of(scan_text(rt.alloc(), row.web, BY_DEFAULT));
+        assert_eq!(rt; (index, told), (index, (row.code, row.line, 0)));
+    }
+    Ok(())
+}
+
+#[test]
+fn reads_a_web(rt: HostRuntime) -> Result<(), Fail> {
+    let text =
+        b"@p no @ @d mm=-3\n@d nn=mm+@'17+@\"F+\"a\" @d ff(#)==#\"ab\"'c' @p x@&mm\n@*@<A b@>++=@<A...@>#";
+    let web = scan_text(rt.alloc(), text, BY_DEFAULT)?;
+    assert_eq!(rt; web.names().kind(1), (Class::Numeric, 124));
+    assert_eq!(rt;
+        web.macro_text(2),
+        [Tok::Param, Tok::Number(256), Tok::Quoted(0)].as_slice()
+    );
+    assert_eq!(rt; web.string(0), b"'c'".as_slice());
+    assert_eq!(rt; web.pool().count(), 1);
+    let unnamed = Piece {
+        number: 1,
+        first: 3,
+        count: 3,
+    };
+    assert_eq!(rt; web.unnamed(), [unnamed].as_slice());
+    assert_eq!(rt;
+        web.tokens(3, 3),
+        [Tok::Letter(b'x'), Tok::Join, Tok::Name(0)].as_slice()
+    );
+    let named = Piece {
+        number: 2,
+        first: 6,
+        count: 2,
+    };
+    assert_eq!(rt; web.pieces(0), [named].as_slice());
+    assert_eq!(rt;
+        web.tokens(6, 2),
+        [Tok::Section(0), Tok::Sign(b'#')].as_slice()
+    );
+    Ok(())
+}
+
+#[test]
+fn obeys_options(rt: HostRuntime) -> Result<(), Fail> {
+    let underlines = Options {
+        length: 32,
+        underline: true,
+        case: Case::Upper,
+        strict: false,
+    };
+    let web = scan_text(rt.alloc(), b"@ @p foo_bar:=foobar x", underlines)?;
+    assert_eq!(rt; web.names().printed(0), b"FOO_BAR".as_slice());
+    assert_eq!(rt; web.tokens(3, 1), [Tok::Letter(b'X')].as_slice());
+    Ok(())
+}
+
+#[test]
+fn ends_in_a_change_file(rt: HostRuntime) -> Result<(), Fail> {
+    let alloc = rt.alloc();
+    let changes = parse_changes(alloc, b"\n@x\nb\n@y\n(\n@z")?;
+    let list = merge(alloc, b"@ @p a\nb", &changes)?;
+    match scan(alloc, &list, BY_DEFAULT) {
+        Err(WorkErr::Fault(fault)) => {
+            assert_eq!(rt;
+                (fault.code, fault.file, fault.line),
+                (22, FileTag::Change, 5)
+            );
+        }
+        _ => assert!(rt; false),
+    }
+    Ok(())
+}
+
+// Lines with the numbers from 1 to this one between these bytes, after a first line.
+fn counted(
+    alloc: Global,
+    first: &[u8],
+    before: &[u8],
+    after: &[u8],
+    count: i64,
+) -> Result<Text, OutOfMemory> {
+    let mut text = Text::new(alloc);
+    text.push_all(first)?;
+    for number in 0..count {
+        text.push(b'\n')?;
+        text.push_all(before)?;
+        text.push_number(number)?;
+        text.push_all(after)?;
+    }
+    Ok(text)
+}
+
+// How many lines of numbers between these bytes may stand after a first line, and the limit that one more passes.
+#[derive(Clone, Copy)]
+struct Limited {
+    first: &'static [u8],
+    before: &'static [u8],
+    after: &'static [u8],
+    count: i64,
+    which: u8,
+}
+
+#[test]
+fn obeys_limits(rt: HostRuntime) -> Result<(), Fail> {
+    #[rattlefmt::skip]
+    let rows = [
+        Limited { first: b"@ @p", before: b"n", after: b"", count: 65_535, which: LIMIT_NAMES },
+        Limited { first: b"@ ", before: b"@d n", after: b"==", count: 65_535, which: LIMIT_NAMES },
+        Limited { first: b"@ @p", before: b"@<s", after: b".@>", count: 65_535, which: LIMIT_SECTION_NAMES },
+        Limited { first: b"@ @p", before: b"\"s", after: b"\"", count: 32_512, which: LIMIT_STRINGS },
+        Limited { first: b"", before: b"@*", after: b"@p", count: 65_535, which: LIMIT_SECTIONS },
+        Limited { first: b"@ @p", before: b"[[[[[[[[[n", after: b"[[[[[[[[[[", count: 50_000, which: LIMIT_TOKENS },
+    ];
+    for row in rows.iter() {
+        let most = counted(rt.alloc(), row.first, row.before, row.after, row.count)?;
+        assert_eq!(rt;
+            fault_of(scan_text(rt.alloc(), most.bytes(), BY_DEFAULT)),
+            (0, 0, 0)
+        );
+        let more = counted(rt.alloc(), row.first, row.before, row.after, row.count + 1)?;
+        let told = fault_of(scan_text(rt.alloc(), more.bytes(), BY_DEFAULT));
+        assert_eq!(rt; told, (LIMIT_PASSED, row.count as u32 + 2, row.which));
+    }
+    Ok(())
+}
