@@ -1,6 +1,10 @@
-//! The expansion of a web's macros and sections. So far the items that it gives.
+//! The expansion of a web's macros and sections, in fixed space.
 #![tactic(auto)]
 
 mod items;
+mod limits;
+mod refusals;
 
 pub use items::Item;
+pub use limits::{LEVEL_LIMIT, STEP_LIMIT};
+pub use refusals::ExpandErr;
