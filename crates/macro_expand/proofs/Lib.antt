@@ -1,0 +1,3 @@
+pub mod ExpansionLemmas
+pub mod FlatLemmas
+pub mod LevelsLemmas
