@@ -61,6 +61,7 @@ same_steps {after} {steps} same = omega arith
 
 with_argument-steps : (text : List Tok) (steps : ℕ) (list : Flat) (left : Removal) → with_argument text steps list ≡ Ok left
     → left.steps ≤ steps
+unfolding with_argument
 with_argument-steps text steps list left is =
     let ended = bound (steps_after (ends_in_front list) steps) _ left is in
     let opened = bound (behind_opening (behind_ends list)) _ left ended.2 in

@@ -1,3 +1,6 @@
+pub mod ArgumentLemmas
 pub mod ExpansionLemmas
 pub mod FlatLemmas
+pub mod HeadLemmas
 pub mod LevelsLemmas
+pub mod MeaningLemmas

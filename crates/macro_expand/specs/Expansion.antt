@@ -89,15 +89,20 @@ abbrev pub behind_opening : Flat → Result Flat ExpandErr
 behind_opening (token head rest) = if is_opening head then Ok rest else Err NoParameter
 behind_opening other = Err NoParameter
 
--- a parametric macro with this text is replaced: the ends at the front are removed, then the `(`, the argument and its
--- `)`, and the text goes to the front
-abbrev pub with_argument : List Tok → ℕ → Flat → Result Removal ExpandErr
+-- the text of a parametric macro goes to the front in place of the `(`, the argument and its `)`, of which the `(` was
+-- read
+abbrev pub argument_taken : List Tok → ℕ → Flat → Result Removal ExpandErr
+argument_taken text steps opened =
+    let found = parted 0 opened in
+    steps_after (found.count + 2) steps
+    >>= (λ steps. replaced steps (text_before found.inside text (ends found.behind)))
+
+-- a parametric macro with this text is replaced: the ends at the front are removed, and then the argument is taken
+unfoldable pub with_argument : List Tok → ℕ → Flat → Result Removal ExpandErr
 with_argument text steps list = do
   steps ← steps_after (ends_in_front list) steps
   opened ← behind_opening (behind_ends list)
-  let found = parted 0 opened in
-      steps_after (found.count + 2) steps
-      >>= (λ steps. replaced steps (text_before found.inside text (ends found.behind)))
+  argument_taken text steps opened
 
 -- a token with this meaning was removed
 abbrev pub token_removed : ℕ → Flat → Meaning → Result Removal ExpandErr

@@ -22,7 +22,7 @@ use Rattle.web_scan.specs.Sections.{sections}
 use Rattle.web_scan.specs.Texts.{macro_text}
 use Rattle.macro_expand.specs.declared.refusals.ExpandErr.{ExpandErr}
 use Rattle.macro_expand.specs.declared.refusals.ExpandErr.TheVariants.{NotPresent, NoParameter, Levels, Steps}
-use Rattle.macro_expand.specs.Expansion.{Expansion, expansion_of, given_by, given_within, removal}
+use Rattle.macro_expand.specs.Expansion.{Expansion, expansion_of, given_by, given_within, removal, with_argument}
 use Rattle.macro_expand.specs.Flat.{nothing, ends, pieces_before}
 use Rattle.macro_expand.specs.Items.{Expanded, digit, number, word, sign, joined, quoted, verbatim, join, line}
 use Rattle.macro_expand.specs.Items.{meta_open, meta_close, opens, closes}
@@ -76,7 +76,7 @@ pub items :
     ∷ joined two.Becomes ∷ sign 35 ∷ []))
 unfolding scan_of sections section section_parts definition right_side macro_text pascal_text named_text section_text
     head_read used defined with_value compared_form whole_name prefix_name is_prefix_of numbered printed_form
-    expansion_of given_by given_within removal
+    expansion_of given_by given_within removal with_argument
 items = (refl, refl)
 
 -- the texts of the unnamed section, and those under a name, each with its marks
@@ -94,7 +94,7 @@ pub sections_of_a_web :
     ≡ broken (text (codes "a")) NotPresent)
 unfolding scan_of sections section section_parts definition right_side macro_text pascal_text named_text section_text
     head_read used defined with_value compared_form whole_name prefix_name is_prefix_of numbered printed_form
-    expansion_of given_by given_within removal
+    expansion_of given_by given_within removal with_argument
 sections_of_a_web = (refl, refl, refl, refl, refl)
 
 -- an argument is sought in the texts around, too; a parameter in it is that of the text in which it stands
@@ -111,7 +111,7 @@ pub arguments :
     ≡ whole (word (codes "cd") ∷ sign 40 ∷ word (codes "cd") ∷ sign 41 ∷ []))
 unfolding scan_of sections section section_parts definition right_side macro_text pascal_text named_text section_text
     head_read used defined with_value compared_form whole_name prefix_name is_prefix_of numbered printed_form
-    expansion_of given_by given_within removal
+    expansion_of given_by given_within removal with_argument
 arguments = (refl, refl, refl, refl, refl)
 
 -- the `(` is the next item itself, and is not sought past the end of a piece
@@ -128,7 +128,7 @@ pub no_parameter :
     ≡ broken [] NoParameter)
 unfolding scan_of sections section section_parts definition right_side macro_text pascal_text named_text section_text
     head_read used defined with_value compared_form whole_name prefix_name is_prefix_of numbered printed_form
-    expansion_of given_by given_within removal
+    expansion_of given_by given_within removal with_argument
 no_parameter = (refl, refl, refl, refl, refl)
 
 -- a macro that never ends
@@ -139,7 +139,7 @@ pub without_end :
     ≡ broken (replicate 199 (word (codes "x"))) Levels)
 unfolding scan_of sections section section_parts definition right_side macro_text pascal_text named_text section_text
     head_read used defined with_value compared_form whole_name prefix_name is_prefix_of numbered printed_form
-    expansion_of given_by given_within removal
+    expansion_of given_by given_within removal with_argument
 without_end = (refl, refl)
 
 -- each head that is removed is a step: here the mark, the macro, its argument in parentheses, the parameter, `k`, two ends, the mark
@@ -157,7 +157,7 @@ pub steps :
     ≡ gives [] (Some Steps))
 unfolding scan_of sections section section_parts definition right_side macro_text pascal_text named_text section_text
     head_read used defined with_value compared_form whole_name prefix_name is_prefix_of numbered printed_form
-    expansion_of given_by given_within removal
+    expansion_of given_by given_within removal with_argument
 steps = (refl, refl, refl, refl, refl)
 
 -- the step that is one too many comes before all else, and a level too many comes last
@@ -176,7 +176,7 @@ pub order_of_faults :
     ≡ broken [] Steps)
 unfolding scan_of sections section section_parts definition right_side macro_text pascal_text named_text section_text
     head_read used defined with_value compared_form whole_name prefix_name is_prefix_of numbered printed_form
-    expansion_of given_by given_within removal
+    expansion_of given_by given_within removal with_argument
 order_of_faults = (refl, refl, refl, refl, refl, refl)
 
 -- macros each of which stands for the one before it, and the first for `x`
@@ -200,5 +200,5 @@ web_of_chain last = record (nothing_scanned by_default) {
 pub levels_of_a_chain :
     (Some (expansion_of (web_of_chain 198)) ≡ whole (text (codes "x")))
     × (Some (expansion_of (web_of_chain 199)) ≡ broken [] Levels)
-unfolding expansion_of given_by given_within removal printed_form
+unfolding expansion_of given_by given_within removal with_argument printed_form
 levels_of_a_chain = (refl, refl)

@@ -2,3 +2,4 @@
 pub mod Answers
 pub mod Heads
 pub mod Levels
+pub mod Places

@@ -1,4 +1,12 @@
 //! The arguments of parametric macros.
+ghost use Rattle.std.specs.Prelude.{◌≡◌, ◌<◌, ◌≤◌, false, List, ◌∷◌, length, take, IfOk, IfErr, Err};
+ghost use Rattle.wb_base.specs.declared.tokens.Tok.{Tok};
+ghost use Rattle.web_scan.specs.Scanned.{Scanned};
+ghost use Rattle.macro_expand.specs.Expansion.{with_argument};
+ghost use Rattle.macro_expand.specs.Flat.{is_opening, is_closing, depth_behind};
+ghost use Rattle.macro_expand.specs.inner.Levels.{Level, level_of, list_of, is_finished, AreLevels};
+ghost use Rattle.macro_expand.specs.inner.Places.{closing_place, levels_at, IsTaken};
+
 use crate::frames::{Argument, Frame};
 use crate::refusals::ExpandErr;
 use wb_base::Tok;
@@ -14,7 +22,18 @@ pub(crate) struct Place<'w> {
 
 impl<'w> Place<'w> {
     // The place behind the ends of levels, where these levels lie below it.
-    pub(crate) fn behind_ends(self, lower: &[Frame<'w>]) -> Result<Place<'w>, ExpandErr> {
+    pub(crate) fn behind_ends(self, lower: &[Frame<'w>]) -> Result<Place<'w>, ExpandErr>
+        requires { self.level ≤ length lower.now }
+        ensures found { (web : Scanned) (text : List Tok) → IfOk result (λ place.
+            with_argument text self.entry.steps (list_of web.tokens (levels_at self.entry lower.now))
+            ≡ with_argument text place.steps (list_of web.tokens (levels_at place lower.now))) }
+        ensures refused { (web : Scanned) (text : List Tok) → IfErr result (λ refusal.
+            with_argument text self.entry.steps (list_of web.tokens (levels_at self.entry lower.now)) ≡ Err refusal) }
+        ensures unfinished { IfOk result (λ place. is_finished (level_of place.top) ≡ false) }
+        ensures lower { IfOk result (λ place. place.level ≤ self.entry.level) }
+        ensures kept { (web : Scanned) → AreLevels web (levels_at self.entry lower.now)
+            → IfOk result (λ place. AreLevels web (levels_at place lower.now)) }
+    {
         let Place {
             mut level,
             mut top,
@@ -35,9 +54,18 @@ impl<'w> Place<'w> {
     }
 
     // The argument at this place, and the place behind its `)`.
-    pub(crate) fn take_argument(self) -> Result<(Argument<'w>, Place<'w>), ExpandErr> {
-        let [Tok::Sign(b'('), opened @ ..] = self.top.text else {
-            return Err(ExpandErr::NoParameter);
+    pub(crate) fn take_argument(self) -> Result<(Argument<'w>, Place<'w>), ExpandErr>
+        requires { is_finished (level_of self.top) ≡ false }
+        ensures taken { (web : Scanned) (lower : List Level) → AreLevels web (level_of self.entry.top ∷ lower)
+            → IfOk result (λ taken. IsTaken web lower self.entry taken.0 taken.1) }
+        ensures refused { (web : Scanned) (lower : List Level) (text : List Tok)
+            → AreLevels web (level_of self.entry.top ∷ lower)
+            → IfErr result (λ refusal. with_argument text self.entry.steps
+            (list_of web.tokens (level_of self.entry.top ∷ lower)) ≡ Err refusal) }
+    {
+        let opened = match self.top.text {
+            [first, opened @ ..] if is_opening(first) => opened,
+            _ => return Err(ExpandErr::NoParameter),
         };
         let steps = self.steps as usize;
         let searched = opened.len().min(steps);
@@ -62,19 +90,43 @@ impl<'w> Place<'w> {
 }
 
 // How many tokens stand before the `)` that closes a text.
-fn find_closing(text: &[Tok]) -> Option<usize> {
-    let mut depth: usize = 0;
+fn find_closing(text: &[Tok]) -> Option<usize>
+    ensures { result ≡ closing_place 0 text.now }
+{
+    let mut depth = 0;
     for (index, token) in text.iter().enumerate() {
-        match token {
-            Tok::Sign(b'(') => depth += 1,
-            Tok::Sign(b')') => {
-                if depth == 0 {
-                    return Some(index);
-                }
-                depth -= 1;
-            }
-            _ => {}
+        if depth == 0 && is_closing(token) {
+            return Some(index);
         }
+        depth = depth_behind(depth, token);
     }
     None
+}
+
+// Whether a token opens a parenthesis.
+fn is_opening(token: &Tok) -> bool
+    ensures { result ≡ is_opening token.now }
+{
+    matches!(token, Tok::Sign(b'('))
+}
+
+// Whether a token closes a parenthesis.
+fn is_closing(token: &Tok) -> bool
+    ensures { result ≡ is_closing token.now }
+{
+    matches!(token, Tok::Sign(b')'))
+}
+
+// How many parentheses are open behind a token, where so many are before it.
+fn depth_behind(depth: usize, token: &Tok) -> usize
+    requires { depth < usize.MAX }
+    ensures { result ≡ depth_behind depth token.now }
+{
+    if is_opening(token) {
+        depth + 1
+    } else if is_closing(token) {
+        depth.saturating_sub(1)
+    } else {
+        depth
+    }
 }

@@ -1,6 +1,8 @@
 //! The open levels of an expansion.
-ghost use Rattle.std.specs.Prelude.{◌≡◌, ℕ, List, IsTrue, ◌↔◌, IfSome, length, pos};
-ghost use Rattle.web_scan.specs.Scanned.{Scanned};
+ghost use Rattle.std.specs.Prelude.{◌≡◌, ℕ, List, [], None, All, length};
+ghost use Rattle.web_scan.specs.Pieces.{IsPieceWithin};
+ghost use Rattle.macro_expand.specs.inner.Levels.{Level, level_of, is_finished, IsLevel, HaveSameArgument};
+ghost use Rattle.macro_expand.specs.inner.Heads.{Splits, IsHeadOf};
 
 use wb_base::Tok;
 use web_scan::{Piece, Web};
@@ -39,7 +41,10 @@ pub(crate) enum Head<'w> {
 
 impl<'w> Frame<'w> {
     // The level of this number for the text of a macro with this argument.
-    pub(crate) fn of_macro(text: &'w [Tok], argument: Argument<'w>, number: usize) -> Frame<'w> {
+    pub(crate) fn of_macro(text: &'w [Tok], argument: Argument<'w>, number: usize) -> Frame<'w>
+        ensures { level_of result ≡ record { text = text.now; section = None; pieces = []; environment = number;
+            argument = argument.entry.text.now; meant = argument.entry.environment } }
+    {
         Frame {
             text,
             section: None,
@@ -50,7 +55,10 @@ impl<'w> Frame<'w> {
     }
 
     // The level of this number for the texts of a section.
-    pub(crate) fn of_pieces(pieces: &'w [Piece], number: usize) -> Frame<'w> {
+    pub(crate) fn of_pieces(pieces: &'w [Piece], number: usize) -> Frame<'w>
+        ensures { level_of result ≡ record { text = []; section = None; pieces = pieces.now; environment = number;
+            argument = []; meant = 0 } }
+    {
         Frame {
             text: &[],
             section: None,
@@ -61,7 +69,10 @@ impl<'w> Frame<'w> {
     }
 
     // A level for an argument.
-    pub(crate) fn of_argument(argument: Argument<'w>) -> Frame<'w> {
+    pub(crate) fn of_argument(argument: Argument<'w>) -> Frame<'w>
+        ensures { level_of result ≡ record { text = argument.entry.text.now; section = None; pieces = [];
+            environment = argument.entry.environment; argument = []; meant = 0 } }
+    {
         Frame {
             text: argument.text,
             section: None,
@@ -72,12 +83,21 @@ impl<'w> Frame<'w> {
     }
 
     // Whether nothing but its end is still to come.
-    pub(crate) fn is_finished(&self) -> bool {
+    pub(crate) fn is_finished(&self) -> bool
+        ensures { result ≡ is_finished (level_of self.now) }
+    {
         self.text.is_empty() && self.section.is_none() && self.pieces.is_empty()
     }
 
     // The head of the level, and the level behind it.
-    pub(crate) fn split_head(&self, web: &'w Web) -> (Head<'w>, Frame<'w>) {
+    pub(crate) fn split_head(&self, web: &'w Web) -> (Head<'w>, Frame<'w>)
+        requires { All (IsPieceWithin (length web.now.tokens)) self.now.pieces.now }
+        ensures split { (lower : List Level)
+            → Splits web.now.tokens lower (level_of self.now) result.0 (level_of result.1) }
+        ensures kept { (number : ℕ) → IsLevel web.now number (level_of self.now)
+            → IsLevel web.now number (level_of result.1) × IsHeadOf web.now result.0 }
+        ensures same { HaveSameArgument (level_of self.now) (level_of result.1) }
+    {
         match self.text {
             [Tok::Param, text @ ..] => (Head::Parameter, Frame { text, ..*self }),
             [token, text @ ..] => (Head::Token(token), Frame { text, ..*self }),
@@ -86,7 +106,15 @@ impl<'w> Frame<'w> {
     }
 
     // The same at the end of a text.
-    fn split_mark(&self, web: &'w Web) -> (Head<'w>, Frame<'w>) {
+    fn split_mark(&self, web: &'w Web) -> (Head<'w>, Frame<'w>)
+        requires pieces { All (IsPieceWithin (length web.now.tokens)) self.now.pieces.now }
+        requires ended { self.now.text.now ≡ [] }
+        ensures split { (lower : List Level)
+            → Splits web.now.tokens lower (level_of self.now) result.0 (level_of result.1) }
+        ensures kept { (number : ℕ) → IsLevel web.now number (level_of self.now)
+            → IsLevel web.now number (level_of result.1) × IsHeadOf web.now result.0 }
+        ensures same { HaveSameArgument (level_of self.now) (level_of result.1) }
+    {
         if let Some(number) = self.section {
             return (
                 Head::Close(number),

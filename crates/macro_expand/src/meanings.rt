@@ -1,4 +1,9 @@
 //! What tokens stand for.
+ghost use Rattle.std.specs.Prelude.{◌≡◌, ◌<◌, length, slice_get};
+ghost use Rattle.web_scan.specs.Lawful.{IsLawful, IsTokenOf};
+ghost use Rattle.macro_expand.specs.Expansion.{meaning, name_meaning};
+ghost use Rattle.macro_expand.specs.inner.Heads.{meaning_in, IsMeaningOf};
+
 use crate::items::Item;
 use std::slice;
 use wb_base::Tok;
@@ -14,9 +19,14 @@ pub(crate) enum Meaning<'w> {
 }
 
 // What a token stands for.
-pub(crate) fn meaning_of<'w>(web: &'w Web, token: &'w Tok) -> Meaning<'w> {
+pub(crate) fn meaning_of<'w>(web: &'w Web, token: &'w Tok) -> Meaning<'w>
+    requires lawful { IsLawful web.now }
+    requires token { IsTokenOf web.now token.now }
+    ensures means { meaning_in web.now.tokens result ≡ meaning web.now token.now }
+    ensures kept { IsMeaningOf web.now result }
+{
     match token {
-        Tok::Name(id) => name_meaning(web, *id),
+        Tok::Name(id) => meaning_of_name(web, *id),
         Tok::Section(name) => Meaning::Section(web.pieces(*name)),
         Tok::Letter(byte) => Meaning::Itself(Item::Word(slice::from_ref(byte))),
         Tok::Digit(byte) => Meaning::Itself(Item::Digit(*byte)),
@@ -34,7 +44,11 @@ pub(crate) fn meaning_of<'w>(web: &'w Web, token: &'w Tok) -> Meaning<'w> {
 }
 
 // What a word of several letters stands for.
-fn name_meaning(web: &Web, id: u32) -> Meaning<'_> {
+fn meaning_of_name(web: &Web, id: u32) -> Meaning<'_>
+    requires { id < length web.now.names.names }
+    ensures means { meaning_in web.now.tokens result ≡ name_meaning web.now (slice_get web.now.names.names id) }
+    ensures kept { IsMeaningOf web.now result }
+{
     let names = web.names();
     match names.kind(id) {
         (Class::Ordinary, _) => Meaning::Itself(Item::Word(names.printed(id))),

@@ -2,6 +2,7 @@
 use Rattle.std.specs.Prelude.{ℕ, ◌≡◌, List, Option, Result, Ok, Err, IfSome, ⊤}
 use Rattle.std.specs.Option.{option_map}
 use Rattle.wb_base.specs.declared.tokens.Tok.{Tok}
+use Rattle.web_scan.specs.Lawful.{IsLawful}
 use Rattle.macro_expand.specs.declared.items.Item.{Item}
 use Rattle.macro_expand.specs.declared.refusals.ExpandErr.{ExpandErr}
 use Rattle.macro_expand.specs.declared.stack.Stack.{Stack}
@@ -19,9 +20,10 @@ levels stack = levels_of stack.frames.items
 abbrev pub list_left : Stack → Flat
 list_left stack = list_of stack.web.now.tokens (levels stack)
 
--- the levels of a stack are levels of its web
-abbrev pub IsSound : Stack → Type 0
-IsSound stack = AreLevels stack.web.now (levels stack)
+-- the web is lawful, and the levels of a stack are levels of it
+pub record IsSound (stack : Stack) : Type 0 where
+  pub lawful : IsLawful stack.web.now
+  pub levels : AreLevels stack.web.now (levels_of stack.frames.items)
 
 -- the item, if there is one, and the stack are what the removal gives; or the refusal is
 abbrev pub Answers : Result Removal ExpandErr → Result (Option Item) ExpandErr → Stack → Type 0
