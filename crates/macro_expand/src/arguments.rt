@@ -63,10 +63,12 @@ impl<'w> Place<'w> {
             → IfErr result (λ refusal. with_argument text self.entry.steps
             (list_of web.tokens (level_of self.entry.top ∷ lower)) ≡ Err refusal) }
     {
-        let opened = match self.top.text {
-            [first, opened @ ..] if is_opening(first) => opened,
-            _ => return Err(ExpandErr::NoParameter),
+        let Some((first, opened)) = self.top.text.split_first() else {
+            return Err(ExpandErr::NoParameter);
         };
+        if !is_opening(first) {
+            return Err(ExpandErr::NoParameter);
+        }
         let steps = self.steps as usize;
         let searched = opened.len().min(steps);
         let Some(count) = find_closing(&opened[..searched]) else {
