@@ -1,5 +1,5 @@
 -- The argument of a parametric macro in the list and in the levels.
-use Rattle.std.proofs.Common.{◌≡◌, ◌≢◌, ℕ, zero, suc, ◌+◌, ◌-◌, ◌<◌, ◌≤◌, Bool, true, false, nat_lt, if◌then◌else◌, ◌==◌, ◌&&◌, take, drop, IsTrue}
+use Rattle.std.proofs.Common.{◌≡◌, ◌≢◌, ℕ, zero, suc, ◌+◌, ◌-◌, ◌<◌, ◌≤◌, Bool, true, false, nat_lt, if◌then◌else◌, ◌==◌, ◌&&◌, take, drop, min, IsTrue}
 use Rattle.std.proofs.Common.{List, [], ◌∷◌, length, Option, Some, None, is_none, Result, Ok, Err, refl, sym, ap, ◌∙◌, subst, arith, All, add-one}
 use Rattle.std.proofs.lemmas.Bool.{and_parts, and_from, and_left, and_right, eqb-true, eq-eqb, ne_eqb, lt-ltb, le-ltb, cases_Bool, cases_eq}
 use Rattle.std.proofs.lemmas.Bool.Decides.{nat_tests}
@@ -17,8 +17,10 @@ use Rattle.macro_expand.specs.Expansion.{Removal, ◌>>=◌, steps_after, replac
 use Rattle.macro_expand.specs.Flat.{Flat, nothing, token, opens, closes, ends, argument, text_before, ends_in_front, behind_ends}
 use Rattle.macro_expand.specs.Flat.{is_opening, is_closing, depth_behind, Parted, with_head, parted}
 use Rattle.macro_expand.specs.inner.Levels.{Level, pieces_with, mark_before, level_before, list_of, argument_of, is_finished}
-use Rattle.macro_expand.specs.inner.Levels.{IsRest, IsLevel, AreLevels}
-use Rattle.macro_expand.specs.inner.Places.{closing_place}
+use Rattle.macro_expand.specs.inner.Levels.{level_of, IsRest, IsLevel, AreLevels}
+use Rattle.macro_expand.specs.declared.arguments.Place.{Place}
+use Rattle.macro_expand.specs.declared.frames.Argument.{Argument}
+use Rattle.macro_expand.specs.inner.Places.{closing_place, IsTaken}
 use Rattle.macro_expand.proofs.LevelsLemmas.{StartsWithin, unfinished}
 use Rattle.macro_expand.proofs.FlatLemmas.{text_before-token}
 
@@ -345,3 +347,55 @@ is_closed web (tok.Sign byte) opened is rest =
       behind = record { tokens = All-drop (IsTokenOf web) (suc found.count) opened tokens; depth = all; balanced = found.behind };
     }
 is_closed web head opened is rest = absurd (cc)
+
+pub is_opened-empty : (text : List Tok) → length text ≡ 0 → is_opened text ≡ false
+is_opened-empty [] none = refl
+is_opened-empty (head ∷ text) none = absurd (omega arith)
+
+-- the argument of these parts is taken
+pub taken : (web : Scanned) (lower : List Level) (place : Place) (found : Argument) (after : Place) (head : Tok) (opened : List Tok) (count : ℕ)
+    → AreLevels web (level_of place.top ∷ lower) → is_finished (level_of place.top) ≡ false → place.top.text.now ≡ head ∷ opened
+    → is_opening head ≡ true → closing_place 0 opened ≡ Some count → count + 2 ≤ place.steps → after.steps ≡ place.steps - (count + 2)
+    → found.text.now ≡ take count opened → found.environment ≡ place.top.environment → after.level ≡ place.level
+    → level_of after.top ≡ behind_argument (level_of place.top) opened count → IsTaken web lower place found after
+taken web lower place found after head opened count all left is opening at few steps text environment level top =
+    let old = level_of place.top in
+    let here : IsLevel web (length lower) old = all.0 in
+    let closed_at = is_closed web head opened opening (subst (IsRest web) is here.text) in
+    let same : closed_at.count ≡ count = cc (closed_at.place, at) in
+    let P : List Level → Type 0 = λ levels. AreLevels web levels in
+    record {
+      list = λ macro_text.
+          with_argument-steps_left web.tokens macro_text place.steps lower old head opened count left is opening at few
+          ∙ ap (λ steps. replaced steps (text_before (text_before (argument_of (old ∷ lower) old.environment) (take count opened) nothing) macro_text
+          (ends (list_of web.tokens (behind_argument old opened count ∷ lower))))) (sym steps)
+          ∙ ap (λ part. replaced after.steps (text_before (text_before (argument_of (old ∷ lower) old.environment) part nothing) macro_text
+          (ends (list_of web.tokens (behind_argument old opened count ∷ lower))))) (sym text)
+          ∙ ap (λ number. replaced after.steps (text_before (text_before (argument_of (old ∷ lower) number) found.text.now nothing) macro_text
+          (ends (list_of web.tokens (behind_argument old opened count ∷ lower))))) (sym environment)
+          ∙ ap (λ behind. replaced after.steps (text_before (text_before (argument_of (behind ∷ lower) found.environment) found.text.now nothing) macro_text
+          (ends (list_of web.tokens (behind ∷ lower))))) (sym top);
+      levels = subst (λ behind. P (behind ∷ lower)) (sym top) (record {
+        text = subst (λ count. IsRest web (drop (suc count) opened)) same closed_at.behind;
+        within = here.within;
+        pieces = here.pieces;
+        environment = here.environment;
+        argument = here.argument;
+        meant = here.meant;
+      }, all.1);
+      text = subst (IsTextOf web) (ap (λ count. take count opened) same ∙ sym text) closed_at.before;
+      environment = omega (arith, here.environment, environment);
+      level = level;
+    }
+
+-- the `)` is not among as many tokens as there are steps
+pub passed_unseen : (web : Scanned) (lower : List Level) (top : Level) (text : List Tok) (steps : ℕ) (head : Tok) (opened : List Tok) (most : ℕ)
+    → AreLevels web (top ∷ lower) → is_finished top ≡ false → top.text ≡ head ∷ opened → is_opening head ≡ true
+    → most ≡ min (length opened) steps → closing_place 0 (take most opened) ≡ None
+    → with_argument text steps (list_of web.tokens (top ∷ lower)) ≡ Err Steps
+passed_unseen web lower top text steps head opened most all left is opening few none =
+    let found = is_closed web head opened opening (subst (IsRest web) is all.0.text) in
+    let behind : most ≤ found.count = closing_place-take-None 0 most opened found.count none found.place in
+    let within : found.count < length opened = found.within in
+    let passed : steps < found.count + 2 = omega arith in
+    with_argument-steps_passed web.tokens text steps lower top head opened found.count left is opening found.place passed

@@ -4,3 +4,4 @@ pub mod FlatLemmas
 pub mod HeadLemmas
 pub mod LevelsLemmas
 pub mod MeaningLemmas
+pub mod PlaceLemmas

@@ -1,5 +1,5 @@
 //! The arguments of parametric macros.
-ghost use Rattle.std.specs.Prelude.{◌≡◌, ◌<◌, ◌≤◌, false, List, ◌∷◌, length, take, IfOk, IfErr, Err};
+ghost use Rattle.std.specs.Prelude.{◌≡◌, ◌<◌, ◌≤◌, false, List, ◌∷◌, length, take, IfOk, IfErr, IfSome, Err};
 ghost use Rattle.wb_base.specs.declared.tokens.Tok.{Tok};
 ghost use Rattle.web_scan.specs.Scanned.{Scanned};
 ghost use Rattle.macro_expand.specs.Expansion.{with_argument};
@@ -93,7 +93,8 @@ impl<'w> Place<'w> {
 
 // How many tokens stand before the `)` that closes a text.
 fn find_closing(text: &[Tok]) -> Option<usize>
-    ensures { result ≡ closing_place 0 text.now }
+    ensures place { result ≡ closing_place 0 text.now }
+    ensures within { IfSome result (λ count. count < length text.now) }
 {
     let mut depth = 0;
     for (index, token) in text.iter().enumerate() {
