@@ -382,6 +382,7 @@ taken web lower place found after head opened count all left is opening at few s
         environment = here.environment;
         argument = here.argument;
         meant = here.meant;
+        below = here.below;
       }, all.1);
       text = subst (IsTextOf web) (ap (λ count. take count opened) same ∙ sym text) closed_at.before;
       environment = omega (arith, here.environment, environment);

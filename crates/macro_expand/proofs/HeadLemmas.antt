@@ -39,6 +39,7 @@ IsLevel-opened web number level piece pieces text section is parts text_is =
       environment = is.environment;
       argument = is.argument;
       meant = is.meant;
+      below = is.below;
     }
 
 -- parentheses balance behind a token
@@ -72,6 +73,7 @@ IsLevel-behind web number level head text is parts = record {
   environment = is.environment;
   argument = is.argument;
   meant = is.meant;
+  below = is.below;
 }
 
 pub IsTokenOf-head : (web : Scanned) (number : ℕ) (level : Level) (head : Tok) (text : List Tok)

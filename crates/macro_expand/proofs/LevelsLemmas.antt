@@ -111,7 +111,7 @@ argument_of-frame web lower (frame ∷ frames) zero number other all within is =
     ∙ text_before-given (argument_of lower frame.argument.environment)
     (argument_of (levels_over (level_of frame ∷ lower) frames) frame.argument.environment) frame.argument.text.now nothing
     (λ (some : 0 < length frame.argument.text.now).
-      let below : frame.argument.environment < length lower = here.meant some in
+      let below : frame.argument.environment < length lower = here.below some in
       sym (argument_of-over (level_of frame ∷ lower) frames frame.argument.environment (omega arith)
       ∙ argument_of-under lower (level_of frame) frame.argument.environment below))
 argument_of-frame web lower (frame ∷ frames) (suc index) number other all within is =

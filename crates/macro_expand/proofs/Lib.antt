@@ -5,3 +5,4 @@ pub mod HeadLemmas
 pub mod LevelsLemmas
 pub mod MeaningLemmas
 pub mod PlaceLemmas
+pub mod StackLemmas

@@ -1,11 +1,12 @@
 //! The stack of open levels.
 ghost use Rattle.std.specs.Prelude.{◌≡◌, ◌+◌, ◌-◌, ◌<◌, ◌≤◌, ◌==◌, [], ◌∷◌, ◌++◌, List, length, take, get_or, OnErr};
-ghost use Rattle.web_scan.specs.Lawful.{IsLawful, IsTokenOf, IsTextOf};
+ghost use Rattle.web_scan.specs.Lawful.{IsTokenOf, IsTextOf};
 ghost use Rattle.macro_expand.specs.Expansion.{removal, token_removed, with_argument, replaced, meaning, section};
 ghost use Rattle.macro_expand.specs.Flat.{pieces_before, nothing, ends, followed_by, text_before};
 ghost use Rattle.macro_expand.specs.inner.Levels.{Level, level_of, levels_of, list_of, argument_of, AreLevels, HaveSameArgument};
 ghost use Rattle.web_scan.specs.Pieces.{pascal_texts_at};
 ghost use Rattle.macro_expand.specs.inner.Heads.{ArePiecesOf};
+ghost use Rattle.macro_expand.specs.inner.Places.{levels_at};
 ghost use Rattle.macro_expand.specs.inner.Answers.{levels, list_left, IsSound, Answers, GivesFoldable};
 
 use crate::arguments::Place;
@@ -115,7 +116,8 @@ impl<'w> Stack<'w> {
         requires some { 0 < length self.now.frames.items }
         requires left { 0 < self.now.steps }
         ensures level { result.level ≡ length self.now.frames.items - 1 }
-        ensures top { result.top ≡ top.entry }
+        ensures levels { levels_at result self.now.frames.items
+            ≡ level_of top.entry ∷ levels_of (take (length self.now.frames.items - 1) self.now.frames.items) }
         ensures steps { result.steps ≡ self.now.steps - 1 }
     {
         Place {
@@ -247,7 +249,7 @@ impl<'w> Stack<'w> {
             ∷ levels_of (take place.level self.old.frames.items)) }
         requires text { IsTextOf self.old.web.now text.now }
         requires argument { IsTextOf self.old.web.now argument.text.now }
-        requires environment { 0 < length argument.text.now → argument.environment ≤ place.level }
+        requires environment { argument.environment ≤ place.level }
         ensures answers { (lower : List Level) → lower ≡ level_of place.entry.top
             ∷ levels_of (take place.entry.level self.old.frames.items)
             → Answers (replaced place.entry.steps (text_before
@@ -264,8 +266,7 @@ impl<'w> Stack<'w> {
     // Opens a level over the one at a place.
     fn open(&mut self, place: Place<'w>, opened: Frame<'w>) -> Result<Option<Item<'w>>, ExpandErr>
         requires within { place.level < length self.old.frames.items }
-        requires lawful { IsLawful self.old.web.now }
-        requires old_levels { AreLevels self.old.web.now (levels_of self.old.frames.items) }
+        requires sound { IsSound self.old }
         requires levels { AreLevels self.old.web.now (level_of opened ∷ level_of place.top
             ∷ levels_of (take place.level self.old.frames.items)) }
         ensures answers { Answers (replaced place.entry.steps (list_of self.old.web.now.tokens

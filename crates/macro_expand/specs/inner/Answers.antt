@@ -1,9 +1,10 @@
 -- What the removal of a head answers, beside the definition.
-use Rattle.std.specs.Prelude.{ℕ, ◌≡◌, List, Option, Result, Ok, Err, IfSome, ⊤}
+use Rattle.std.specs.Prelude.{ℕ, ◌≡◌, ◌≤◌, List, length, Option, Result, Ok, Err, IfSome, ⊤}
 use Rattle.std.specs.Option.{option_map}
 use Rattle.wb_base.specs.declared.tokens.Tok.{Tok}
 use Rattle.web_scan.specs.Lawful.{IsLawful}
 use Rattle.macro_expand.specs.declared.items.Item.{Item}
+use Rattle.macro_expand.specs.declared.limits.TheConstants.{LEVEL_LIMIT}
 use Rattle.macro_expand.specs.declared.refusals.ExpandErr.{ExpandErr}
 use Rattle.macro_expand.specs.declared.stack.Stack.{Stack}
 use Rattle.macro_expand.specs.Expansion.{Removal}
@@ -20,10 +21,11 @@ levels stack = levels_of stack.frames.items
 abbrev pub list_left : Stack → Flat
 list_left stack = list_of stack.web.now.tokens (levels stack)
 
--- the web is lawful, and the levels of a stack are levels of it
+-- the web is lawful, the levels of a stack are levels of it, and they are not too many
 pub record IsSound (stack : Stack) : Type 0 where
   pub lawful : IsLawful stack.web.now
   pub levels : AreLevels stack.web.now (levels_of stack.frames.items)
+  pub few : length stack.frames.items ≤ LEVEL_LIMIT
 
 -- the item, if there is one, and the stack are what the removal gives; or the refusal is
 abbrev pub Answers : Result Removal ExpandErr → Result (Option Item) ExpandErr → Stack → Type 0

@@ -88,7 +88,8 @@ pub record IsLevel (web : Scanned) (number : ℕ) (level : Level) : Type 0 where
   pub pieces : All (IsPascalTextOf web) (pascal_texts_at web.tokens level.pieces)
   pub environment : level.environment ≤ number
   pub argument : IsTextOf web level.argument
-  pub meant : 0 < length level.argument → level.meant < number
+  pub meant : level.meant ≤ number
+  pub below : 0 < length level.argument → level.meant < number
 
 -- each level, by its number
 abbrev pub AreLevels : Scanned → List Level → Type 0
