@@ -8,13 +8,15 @@ use Rattle.web_scan.specs.Scanned.{Scanned}
 use Rattle.macro_expand.specs.declared.frames.Frame.{Frame}
 use Rattle.macro_expand.specs.declared.limits.TheConstants.{LEVEL_LIMIT}
 use Rattle.macro_expand.specs.declared.refusals.ExpandErr.TheVariants.{Levels, NotPresent}
-use Rattle.macro_expand.specs.Expansion.{Removal, gives, replaced, token_removed, section}
+use Rattle.macro_expand.specs.Expansion.{Removal, gives, replaced, token_removed, section, with_argument}
 use Rattle.macro_expand.specs.Flat.{Flat, nothing, ends, levels, text_before, followed_by, pieces_before}
 use Rattle.macro_expand.specs.inner.Levels.{Level, level_of, levels_of, list_of, argument_of, pieces_with, IsLevel, AreLevels, HaveSameArgument}
 use Rattle.macro_expand.proofs.LevelsLemmas.{argument_of-frame, argument_of-same, levels_of-last, levels_over-push, length-levels_of, levels-list_of, argument_of-top, argument_of-under}
 use Rattle.macro_expand.proofs.HeadLemmas.{IsRest-text}
 use Rattle.macro_expand.proofs.FlatLemmas.{followed_by-text_before, pieces_with-nothing}
 use Rattle.macro_expand.specs.inner.Answers.{Answers}
+use Rattle.macro_expand.specs.inner.Places.{levels_at}
+use Rattle.macro_expand.specs.declared.arguments.Place.{Place}
 use Rattle.macro_expand.specs.declared.items.Item.{Item}
 use Rattle.macro_expand.specs.declared.stack.Stack.{Stack}
 use Rattle.macro_expand.specs.declared.refusals.ExpandErr.{ExpandErr}
@@ -187,3 +189,12 @@ pub AreLevels-opened : (web : Scanned) (number : ℕ) (opened opened' : Level) (
 AreLevels-opened web number opened opened' lower lower' same_top same_lower same_number is all =
     AreLevels-as web (opened' ∷ lower') (opened ∷ lower) (ap (λ top. top ∷ lower') same_top ∙ ap (λ lower. opened ∷ lower) same_lower)
     (subst (λ number. IsLevel web number opened) same_number is, all)
+
+-- the argument is sought at a place
+pub sought_at : (tokens text : List Tok) (steps : ℕ) (lower : List Level) (place : Place) (items frames : List Frame) → levels_at place items ≡ lower
+    → place.steps ≡ steps → frames ≡ items
+    → with_argument text steps (list_of tokens lower) ≡ with_argument text place.steps (list_of tokens (levels_at place frames))
+sought_at tokens text steps lower place items frames same_levels same_steps same_items =
+    sym (ap (λ frames. with_argument text place.steps (list_of tokens (levels_at place frames))) same_items
+    ∙ ap (λ levels. with_argument text place.steps (list_of tokens levels)) same_levels
+    ∙ ap (λ steps. with_argument text steps (list_of tokens lower)) same_steps)

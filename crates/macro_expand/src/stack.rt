@@ -202,8 +202,7 @@ impl<'w> Stack<'w> {
         ensures sound { IsSound self.new }
         ensures web { self.new.web ≡ self.old.web }
     {
-        let place = self.place_of(top);
-        let place = place.behind_ends(&self.frames[..place.level])?;
+        let place = self.place_of(top).behind_ends(&self.frames)?;
         let (argument, place) = place.take_argument()?;
         self.open_text(place, text, argument)
     }
