@@ -1,8 +1,11 @@
 -- The stack after a removal.
-use Rattle.std.proofs.Common.{◌≡◌, ℕ, suc, ◌+◌, ◌-◌, ◌<◌, ◌≤◌, true, false, Bool, nat_lt, if◌then◌else◌, get_or, take, List, [], ◌∷◌, ◌++◌, length, Some, None}
+use Rattle.std.proofs.Common.{◌≡◌, ℕ, suc, ◌+◌, ◌-◌, ◌<◌, ◌≤◌, true, false, Bool, nat_lt, if◌then◌else◌, get_or, take, drop, List, [], ◌∷◌, ◌++◌, length, Some, None}
 use Rattle.std.proofs.Common.{Result, Ok, Err, refl, sym, ap, ◌∙◌, subst, arith, Option, All}
 use Rattle.std.proofs.lemmas.Bool.{lt-ltb, le-ltb}
-use Rattle.std.proofs.lemmas.List.{length-take-le}
+use Rattle.std.proofs.lemmas.List.{length-take-le, take_all, take_at, take_more_set}
+use Rattle.std.specs.List.{refill}
+use Rattle.std.proofs.Math.ListN.{set, length-set}
+use Rattle.macro_expand.specs.Items.{Expanded}
 use Rattle.wb_base.specs.declared.tokens.Tok.{Tok}
 use Rattle.web_scan.specs.Scanned.{Scanned}
 use Rattle.macro_expand.specs.declared.frames.Frame.{Frame}
@@ -198,3 +201,35 @@ sought_at tokens text steps lower place items frames same_levels same_steps same
     sym (ap (λ frames. with_argument text place.steps (list_of tokens (levels_at place frames))) same_items
     ∙ ap (λ levels. with_argument text place.steps (list_of tokens levels)) same_levels
     ∙ ap (λ steps. with_argument text steps (list_of tokens lower)) same_steps)
+
+-- an item is given
+pub gives-as : (item : Option Expanded) (steps steps' : ℕ) (list list' : Flat) → steps' ≡ steps → list' ≡ list
+    → gives item steps list ≡ Ok (record { item = item; steps = steps'; list = list' })
+gives-as item steps steps' list list' same_steps same_list =
+    sym (ap (λ steps. gives item steps list') same_steps ∙ ap (gives item steps) same_list)
+
+-- the last of the frames is another
+pub levels_of-set : (items : List Frame) (top : Frame) (last : ℕ) → last + 1 ≡ length items
+    → levels_of (set items last top) ≡ level_of top ∷ levels_of (take last items)
+levels_of-set items top last is =
+    let whole : take (last + 1) (set items last top) ≡ set items last top = take_all (last + 1) (set items last top) (omega (arith, length-set {A = Frame})) in
+    levels_of-put (take last items) top (set items last top) (sym whole ∙ take_more_set items last top (omega arith))
+
+pub AreLevels-below : (web : Scanned) (items : List Frame) (frame : Frame) (last : ℕ) → last + 1 ≡ length items → AreLevels web (levels_of items)
+    → AreLevels web (levels_of (take last items))
+AreLevels-below web items frame last is all =
+    let P : List Level → Type 0 = λ levels. AreLevels web levels in (subst P (levels_of-last items frame last is) all).1
+
+-- the frames where the last was written
+pub put_items : (items written : List Frame) (top : Frame) (count : ℕ) → written ≡ items → count ≡ length items
+    → refill (length items) items (set written (count - 1) top) ≡ set items (length items - 1) top
+put_items items written top count same all =
+    ap (λ written. refill (length items) items (set written (count - 1) top)) same
+    ∙ ap (λ count. refill (length items) items (set items (count - 1) top)) all
+    ∙ take_at (set items (length items - 1) top) (drop (length (set items (length items - 1) top)) items) (length items)
+    (length-set items (length items - 1) top)
+
+pub levels_of-put_items : (items written : List Frame) (top : Frame) (count : ℕ) → written ≡ items → count ≡ length items → 0 < length items
+    → levels_of (refill (length items) items (set written (count - 1) top)) ≡ level_of top ∷ levels_of (take (length items - 1) items)
+levels_of-put_items items written top count same all some =
+    ap levels_of (put_items items written top count same all) ∙ levels_of-set items top (length items - 1) (omega arith)

@@ -86,10 +86,13 @@ impl<'w> Stack<'w> {
 
     // Ends the topmost level.
     fn end_level(&mut self)
+        requires sound { IsSound self.old }
         requires some { 0 < length self.old.frames.items }
         requires left { 0 < self.old.steps }
-        ensures frames { self.new.frames.items ≡ take (length self.old.frames.items - 1) self.old.frames.items }
+        ensures list { list_left self.new ≡ list_of self.old.web.now.tokens (levels_of
+            (take (length self.old.frames.items - 1) self.old.frames.items)) }
         ensures steps { self.new.steps ≡ self.old.steps - 1 }
+        ensures sound { IsSound self.new }
         ensures web { self.new.web ≡ self.old.web }
     {
         let last = self.frames.len() - 1;
@@ -99,11 +102,15 @@ impl<'w> Stack<'w> {
 
     // Puts the topmost level, whose head was removed, in its place.
     fn put(&mut self, top: Frame<'w>)
+        requires sound { IsSound self.old }
         requires some { 0 < length self.old.frames.items }
         requires left { 0 < self.old.steps }
-        ensures frames { self.new.frames.items
-            ≡ take (length self.old.frames.items - 1) self.old.frames.items ++ top.entry ∷ [] }
+        requires levels { AreLevels self.old.web.now (level_of top ∷ levels_of
+            (take (length self.old.frames.items - 1) self.old.frames.items)) }
+        ensures list { list_left self.new ≡ list_of self.old.web.now.tokens (level_of top.entry ∷ levels_of
+            (take (length self.old.frames.items - 1) self.old.frames.items)) }
         ensures steps { self.new.steps ≡ self.old.steps - 1 }
+        ensures sound { IsSound self.new }
         ensures web { self.new.web ≡ self.old.web }
     {
         let last = self.frames.len() - 1;
