@@ -16,6 +16,16 @@ use Rattle.macro_expand.specs.inner.Levels.{Level, level_of, levels_over, levels
 use Rattle.macro_expand.specs.inner.Levels.{level_before, list_of, is_finished, IsLevel, AreLevels, HaveSameArgument}
 use Rattle.macro_expand.proofs.FlatLemmas.{levels-text_before, levels-pieces_with, levels-mark_before, text_before-token}
 
+-- a frame past the last
+abbrev pub no_frame : Frame
+no_frame = record {
+  text = record { ref_ptr = (0, 0); now = [] };
+  section = None;
+  pieces = record { ref_ptr = (0, 0); now = [] };
+  environment = 0;
+  argument = record { text = record { ref_ptr = (0, 0); now = [] }; environment = 0 };
+}
+
 -- one more frame is one more level
 pub levels_over-push : (lower : List Level) (frames : List Frame) (frame : Frame)
     → levels_over lower (frames ++ frame ∷ []) ≡ level_of frame ∷ levels_over lower frames

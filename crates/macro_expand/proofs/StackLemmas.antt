@@ -11,7 +11,8 @@ use Rattle.web_scan.specs.Scanned.{Scanned}
 use Rattle.macro_expand.specs.declared.frames.Frame.{Frame}
 use Rattle.macro_expand.specs.declared.limits.TheConstants.{LEVEL_LIMIT}
 use Rattle.macro_expand.specs.declared.refusals.ExpandErr.TheVariants.{Levels, NotPresent}
-use Rattle.macro_expand.specs.Expansion.{Removal, gives, replaced, token_removed, section, with_argument}
+use Rattle.macro_expand.specs.Expansion.{Removal, gives, replaced, token_removed, section, with_argument, head_removed, removal}
+use Rattle.macro_expand.proofs.ExpansionLemmas.{removal-head}
 use Rattle.macro_expand.specs.Flat.{Flat, nothing, ends, levels, text_before, followed_by, pieces_before}
 use Rattle.macro_expand.specs.inner.Levels.{Level, level_of, levels_of, list_of, argument_of, pieces_with, IsLevel, AreLevels, HaveSameArgument}
 use Rattle.macro_expand.proofs.LevelsLemmas.{argument_of-frame, argument_of-same, levels_of-last, levels_over-push, length-levels_of, levels-list_of, argument_of-top, argument_of-under}
@@ -233,3 +234,18 @@ pub levels_of-put_items : (items written : List Frame) (top : Frame) (count : �
     → levels_of (refill (length items) items (set written (count - 1) top)) ≡ level_of top ∷ levels_of (take (length items - 1) items)
 levels_of-put_items items written top count same all some =
     ap levels_of (put_items items written top count same all) ∙ levels_of-set items top (length items - 1) (omega arith)
+
+-- the topmost level, where the frames are read
+pub topmost : (items frames : List Frame) (other : Frame) (count : ℕ) → frames ≡ items → count ≡ length items → 0 < length items
+    → levels_of items ≡ level_of (get_or frames (count - 1) other) ∷ levels_of (take (length items - 1) items)
+topmost items frames other count same all some =
+    let lower = levels_of (take (length items - 1) items) in
+    levels_of-last items other (length items - 1) (omega arith)
+    ∙ sym (ap (λ frames. level_of (get_or frames (count - 1) other) ∷ lower) same ∙ ap (λ count. level_of (get_or items (count - 1) other) ∷ lower) all)
+
+-- the removal of the head of the levels
+pub removal-of : (web : Scanned) (steps : ℕ) (items : List Frame) (all : List Level) (list : Flat) → 0 < steps → levels_of items ≡ all
+    → list_of web.tokens all ≡ list → removal web steps (list_of web.tokens (levels_of items)) ≡ head_removed web (steps - 1) list
+removal-of web steps items all list some same is =
+    removal-head web steps (list_of web.tokens (levels_of items)) some
+    ∙ ap (head_removed web (steps - 1)) (ap (list_of web.tokens) same ∙ is)

@@ -1,5 +1,5 @@
 use Rattle.std.proofs.Common.{◌∙◌, ◌<◌, ◌≡◌, ◌-◌, ◌≤◌, length, take, true, arith, sym, [], None}
-use Rattle.macro_expand.specs.declared.frames.Frame.{Frame}
+use Rattle.macro_expand.proofs.LevelsLemmas.{no_frame}
 use Rattle.macro_expand.specs.inner.Levels.{level_of, levels_of, is_finished}
 use Rattle.macro_expand.proofs.PlaceLemmas.{ended, ended-no_step, ended-lowest, kept}
 use Rattle.macro_expand.proofs.arguments.Place.behind_ends.Goals as goal
@@ -19,16 +19,6 @@ returns-then-level-eq0-clause-refused c = λ web text.
     let some : 0 < c.loop-top.steps = omega arith in
     c.loop-top.invariant.found web text
     ∙ ended-lowest web.tokens text c.loop-top.steps c.loop-top.level c.args.lower.now (level_of c.loop-top.top) finished some c.if-level-eq0.true
-
--- a frame past the last
-abbrev no_frame : Frame
-no_frame = record {
-  text = record { ref_ptr = (0, 0); now = [] };
-  section = None;
-  pieces = record { ref_ptr = (0, 0); now = [] };
-  environment = 0;
-  argument = record { text = record { ref_ptr = (0, 0); now = [] }; environment = 0 };
-}
 
 -- the level below it is the topmost
 pub loop-top-preserved : goal.loop-top-preserved

@@ -1,6 +1,6 @@
 use Rattle.std.proofs.Common.{◌≡◌, ◌∙◌, ◌<◌, ◌≤◌, ◌+◌, ◌-◌, ◌*◌, ◌∷◌, [], None, length, take, get_or, sym, ap, arith, Fits, w64, refl}
 use Rattle.std.proofs.lemmas.List.{length-take-le}
-use Rattle.macro_expand.specs.declared.frames.Frame.{Frame}
+use Rattle.macro_expand.proofs.LevelsLemmas.{no_frame}
 use Rattle.macro_expand.specs.Expansion.{replaced}
 use Rattle.macro_expand.specs.Flat.{followed_by, ends}
 use Rattle.macro_expand.specs.inner.Levels.{level_of, levels_of, list_of, argument_of, IsLevel}
@@ -9,16 +9,6 @@ use Rattle.macro_expand.proofs.LevelsLemmas.{length-levels_of, IsLevel-frame}
 use Rattle.macro_expand.proofs.StackLemmas.{Answers-as, AreLevels-opened, replaced-as, IsLevel-argument, list_of-argument, macro_level}
 use Rattle.macro_expand.proofs.StackLemmas.{argument_of-topmost}
 use Rattle.macro_expand.proofs.stack.Stack.open_argument.Goals as goal
-
--- a frame past the last
-abbrev no_frame : Frame
-no_frame = record {
-  text = record { ref_ptr = (0, 0); now = [] };
-  section = None;
-  pieces = record { ref_ptr = (0, 0); now = [] };
-  environment = 0;
-  argument = record { text = record { ref_ptr = (0, 0); now = [] }; environment = 0 };
-}
 
 -- the level whose argument is meant is open
 pub offset_bounds-deref-top : goal.offset_bounds-deref-top
