@@ -6,3 +6,4 @@ pub mod LevelsLemmas
 pub mod MeaningLemmas
 pub mod PlaceLemmas
 pub mod StackLemmas
+pub mod StreamLemmas
