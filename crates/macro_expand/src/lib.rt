@@ -1,6 +1,19 @@
-//! The expansion of a web's macros and sections. So far the items that it gives.
+//! The expansion of a web's macros and sections, in fixed space.
 #![tactic(auto)]
 
+mod arguments;
+mod frames;
 mod items;
+mod limits;
+mod meanings;
+mod refusals;
+mod stack;
+mod stream;
 
 pub use items::Item;
+pub use limits::{LEVEL_LIMIT, STEP_LIMIT};
+pub use refusals::ExpandErr;
+pub use stream::Stream;
+
+#[cfg(test)]
+mod tests;
