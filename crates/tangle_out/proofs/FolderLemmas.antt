@@ -25,7 +25,8 @@ use Rattle.tangle_out.specs.Folding.{glued_first, added_by_end, depth_of}
 use Rattle.tangle_out.specs.Folder.{FolderState, HoldsItems, Stands, HasRoomFor, Adds, Shows, AddsAtEnd, ShowsAtEnd}
 use Rattle.tangle_out.specs.declared.folding.Held.{Held}
 use Rattle.tangle_out.specs.declared.folding.Sign.TheVariants.{Plus, Minus}
-use Rattle.tangle_out.specs.Foldable.{IsFoldable, HasRoom}
+use Rattle.macro_expand.specs.Foldable.{IsFoldable}
+use Rattle.tangle_out.specs.Metacomments.{HasRoom}
 use Rattle.tangle_out.specs.inner.Stands.{Holds, last_unit}
 use Rattle.tangle_out.specs.inner.Table.{CanTake, and_map, keeping, after_constant, kept_after, kept_after_number}
 use Rattle.tangle_out.specs.inner.Table.{pieces_at, pieces_at_number, joined_at}

@@ -5,11 +5,11 @@ use Rattle.std.specs.Prelude.{Option, Some, None}
 use Rattle.macro_expand.specs.Items.{Expanded}
 use Rattle.tangle_out.specs.declared.folding.Kept.{Kept}
 use Rattle.tangle_out.specs.declared.packing.TheConstants.{WIDTH}
+use Rattle.tangle_out.specs.Metacomments.{HasRoom}
 use Rattle.tangle_out.specs.Packer.{longest_text}
 use Rattle.tangle_out.specs.Pieces.{Piece}
 use Rattle.tangle_out.specs.Units.{digits_before, units_of}
 use Rattle.tangle_out.specs.Folding.{folded, folded_whole}
-use Rattle.tangle_out.specs.Foldable.{HasRoom}
 use Rattle.tangle_out.specs.inner.Stands.{Holds}
 
 -- the number of the digits at the end, if there are some, what is kept of the units before it, and whether the next

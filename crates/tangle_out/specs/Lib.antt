@@ -1,7 +1,9 @@
-pub mod Foldable
+pub use Rattle.macro_expand.specs.Foldable
+pub use Rattle.macro_expand.specs.Items
 pub mod Folder
 pub mod Folding
 pub mod FoldingRows
+pub mod Metacomments
 pub mod Packer
 pub mod Packing
 pub mod PackingRows

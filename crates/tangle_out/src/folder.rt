@@ -2,7 +2,7 @@
 ghost use Rattle.std.specs.Prelude.{◌≡◌, ◌++◌, [], ◌∷◌, List, map, All, IfOk, IfErr, OnErr};
 ghost use Rattle.macro_expand.specs.Items.{Expanded, item_of};
 ghost use Rattle.tangle_out.specs.Pieces.{piece_of};
-ghost use Rattle.tangle_out.specs.Foldable.{IsFoldable};
+ghost use Rattle.macro_expand.specs.Foldable.{IsFoldable};
 ghost use Rattle.tangle_out.specs.Folder.{Stands, open_metacomments, HasRoomFor, IsShort};
 ghost use Rattle.tangle_out.specs.Folder.{Adds, Shows, AddsAtEnd, ShowsAtEnd};
 

@@ -7,7 +7,7 @@ ghost use Rattle.macro_expand.specs.Items.{item_of};
 ghost use Rattle.tangle_out.specs.Pieces.{piece_of};
 ghost use Rattle.tangle_out.specs.Folding.{item_piece, fault_of_item, sum_piece, alone_piece, sign_pieces};
 ghost use Rattle.tangle_out.specs.Folding.{glued_first, loose};
-ghost use Rattle.tangle_out.specs.Foldable.{IsConstant, IsFoldable};
+ghost use Rattle.macro_expand.specs.Foldable.{IsConstant, IsFoldable};
 ghost use Rattle.tangle_out.specs.inner.Table.{IsSmall, pieces_of_held, joined_after, goes_with, fault_of_follower};
 
 use crate::folding::{Held, Lead, Sign};

@@ -3,7 +3,7 @@ ghost use Rattle.std.specs.Prelude.{◌≡◌, ℕ, ◌+◌, ◌<◌, ◌≤◌,
 ghost use Rattle.std.specs.Fmt.{signed_decimal};
 ghost use Rattle.tangle_out.specs.Folding.{sum_text, alone_text, sign_byte, opening, closing, joined_text};
 ghost use Rattle.tangle_out.specs.Folding.{begin_text, end_text, kind_by_end};
-ghost use Rattle.tangle_out.specs.Foldable.{IsConstant};
+ghost use Rattle.macro_expand.specs.Foldable.{IsConstant};
 
 use crate::folding::{Lead, Sign};
 use crate::pieces::PieceKind;

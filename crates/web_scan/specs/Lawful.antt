@@ -8,10 +8,6 @@ use Rattle.wb_base.specs.declared.tokens.Tok.TheVariants as tok
 use Rattle.web_lex.specs.Token.{greatest_value}
 use Rattle.web_names.specs.declared.classes.Class.{Class}
 use Rattle.web_names.specs.declared.classes.Class.TheVariants as class
-<<<<<<< HEAD
-=======
-use Rattle.web_names.specs.Identifiers.{Name}
->>>>>>> 52a4fcadd43bac3a879c9e34073f7e4973fd5acc
 use Rattle.web_scan.specs.Numeric.{value_limit}
 use Rattle.web_scan.specs.Scanned.{PascalText, Scanned}
 

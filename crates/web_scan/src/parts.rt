@@ -1,5 +1,4 @@
 //! What a web gives, as far as it was scanned.
-<<<<<<< HEAD
 ghost use Rattle.std.specs.Prelude.{◌≡◌, ◌≢◌, ◌+◌, ◌<◌, ◌≤◌, ℕ, List, [], ◌∷◌, ◌++◌, Some, None, Ok, Err, IfOk, IfErr, OnOk};
 ghost use Rattle.std.specs.Prelude.{length, take, drop, slice_get, pos, All};
 ghost use Rattle.wb_base.specs.WorkResult.{IfFault};
@@ -9,14 +8,6 @@ ghost use Rattle.web_scan.specs.Numeric.{Term, constant, with_constant, word_val
 ghost use Rattle.web_pool.specs.Strings.{numbered};
 ghost use Rattle.web_scan.specs.Pieces.{IsPieceWithin};
 ghost use Rattle.web_scan.specs.inner.Under.{pieces_in, with_piece_under, AreWithin};
-=======
-ghost use Rattle.std.specs.Prelude.{◌≡◌, ◌≢◌, ◌+◌, ◌<◌, ◌≤◌, [], ◌∷◌, ◌++◌, Some, None, Ok, Err, IfOk, IfErr, OnOk, length, map, take, drop, slice_get, pos};
-ghost use Rattle.wb_base.specs.WorkResult.{IfFault};
-ghost use Rattle.wb_base.specs.declared.tokens.Tok.TheVariants as tok;
-ghost use Rattle.web_names.specs.Identifiers.{folded};
-ghost use Rattle.web_pool.specs.Strings.{numbered};
-ghost use Rattle.web_scan.specs.inner.Under.{pieces_in, with_piece_under};
->>>>>>> 52a4fcadd43bac3a879c9e34073f7e4973fd5acc
 
 use crate::limits::{SECTION_LIMIT, TOKEN_LIMIT};
 use crate::pieces::{Piece, Span};
@@ -24,12 +15,7 @@ use crate::refusals::{refused_name, refused_string};
 use std::alloc::Global;
 use std::marker::Model;
 use wb_base::faults::{
-<<<<<<< HEAD
     BAD_NUMERIC_DEFINITION, LIMIT_NAMES, LIMIT_SECTION_NAMES, LIMIT_SECTIONS, LIMIT_TOKENS,
-=======
-    BAD_NUMERIC_DEFINITION, LIMIT_NAMES, LIMIT_SECTION_NAMES, LIMIT_SECTIONS, LIMIT_STRINGS,
-    LIMIT_TOKENS,
->>>>>>> 52a4fcadd43bac3a879c9e34073f7e4973fd5acc
 };
 use wb_base::{Fault, Options, OutOfMemory, Place, Text, Tok, WorkErr};
 use web_lex::SectionName;
@@ -228,7 +214,6 @@ impl Parts {
         place: Place,
         defining: u32,
         word: &[u8],
-<<<<<<< HEAD
     ) -> Result<i32, WorkErr>
         ensures ok { IfOk result (λ value. (terms : List Term) →
             with_constant place (word_value defining (id_of word.now self.old.names.names) self.old.names.names) terms
@@ -251,16 +236,6 @@ impl Parts {
         match class {
             Class::Numeric => Ok(value),
             _ => Err(refusal),
-=======
-    ) -> Result<i32, WorkErr> {
-        match self.names.intern(word) {
-            Ok(id) => match self.names.kind(id) {
-                (Class::Numeric, value) if id != defining => Ok(value),
-                _ => Err(Fault::at(BAD_NUMERIC_DEFINITION, place).into()),
-            },
-            Err(NameErr::OutOfMemory) => Err(WorkErr::OutOfMemory),
-            Err(_) => Err(Fault::at(BAD_NUMERIC_DEFINITION, place).into()),
->>>>>>> 52a4fcadd43bac3a879c9e34073f7e4973fd5acc
         }
     }
 
@@ -333,13 +308,9 @@ impl Parts {
 
 // Adds a text under the name with this place.
 fn push_under(named: &mut Vec<Vec<Piece>>, name: usize, piece: Piece) -> Result<(), OutOfMemory>
-<<<<<<< HEAD
     ensures ok { OnOk result (pieces_in named.new.items ≡ with_piece_under name piece (pieces_in named.old.items)) }
     ensures within { (size : ℕ) → IsPieceWithin size piece → AreWithin size named.old.items
         → AreWithin size named.new.items }
-=======
-    ensures { OnOk result (pieces_in named.new.items ≡ with_piece_under name piece (pieces_in named.old.items)) }
->>>>>>> 52a4fcadd43bac3a879c9e34073f7e4973fd5acc
 {
     let alloc = *named.allocator();
     'padded: while named.len() <= name {
@@ -355,24 +326,16 @@ impl Parts {
 
     // The texts of the unnamed section.
     pub(crate) fn unnamed(&self) -> &[Piece]
-<<<<<<< HEAD
         ensures texts { pascal_texts_at self.now.tokens result.now ≡ self.now.unnamed }
         ensures within { All (IsPieceWithin (length self.now.tokens)) result.now }
-=======
-        ensures { pascal_texts_at self.now.tokens result.now ≡ self.now.unnamed }
->>>>>>> 52a4fcadd43bac3a879c9e34073f7e4973fd5acc
     {
         &self.unnamed
     }
 
     // The texts under the name with this place.
     pub(crate) fn pieces(&self, section: u32) -> &[Piece]
-<<<<<<< HEAD
         ensures texts { pascal_texts_at self.now.tokens result.now ≡ texts_under section self.now.named }
         ensures within { All (IsPieceWithin (length self.now.tokens)) result.now }
-=======
-        ensures { pascal_texts_at self.now.tokens result.now ≡ texts_under section self.now.named }
->>>>>>> 52a4fcadd43bac3a879c9e34073f7e4973fd5acc
     {
         match self.named.get(section as usize) {
             Some(pieces) => pieces,

@@ -15,7 +15,8 @@ use Rattle.tangle_out.specs.declared.folding.Last.TheVariants.{Point, Quote, Els
 use Rattle.tangle_out.specs.declared.folding.Kept.{Kept}
 use Rattle.tangle_out.specs.declared.putting.Follower.{Follower}
 use Rattle.tangle_out.specs.declared.putting.Follower.TheVariants.{Product, Other}
-use Rattle.tangle_out.specs.Foldable.{IsConstant, IsFoldable, HasRoom}
+use Rattle.macro_expand.specs.Foldable.{IsConstant, IsFoldable}
+use Rattle.tangle_out.specs.Metacomments.{HasRoom}
 use Rattle.tangle_out.specs.Pieces.{Piece}
 use Rattle.tangle_out.specs.Units.{FoldingUnit, addition, constant, product, joining, other}
 use Rattle.tangle_out.specs.Runs.{sign_times, signed_value, is_too_big}

@@ -1,6 +1,6 @@
 //! Rows of folding, worked out by hand: each state of what is held, and each unit after it, once.
 ghost use Rattle.macro_expand.specs.Items.{item_of};
-ghost use Rattle.tangle_out.specs.Foldable.{IsFoldable};
+ghost use Rattle.macro_expand.specs.Foldable.{IsFoldable};
 
 use super::Folder;
 use crate::{OutPiece, PieceText};
