@@ -1,6 +1,6 @@
 //! What a web gives, as far as it was scanned.
-ghost use Rattle.std.specs.Prelude.{◌≡◌, ◌≢◌, ◌+◌, ◌<◌, ◌≤◌, ℕ, List, [], ◌∷◌, ◌++◌, Some, None, Ok, Err, IfOk, IfErr, OnOk};
-ghost use Rattle.std.specs.Prelude.{length, take, drop, slice_get, pos, All};
+ghost use Rattle.std.specs.Prelude.{◌≡◌, ◌≢◌, ◌+◌, ◌<◌, ◌≤◌, ℕ, List, [], ◌∷◌, ◌++◌, Some, None, Ok, Err, IfOk, IfErr};
+ghost use Rattle.std.specs.Prelude.{OnOk, length, take, drop, slice_get, pos, All};
 ghost use Rattle.wb_base.specs.WorkResult.{IfFault};
 ghost use Rattle.wb_base.specs.declared.tokens.Tok.TheVariants as tok;
 ghost use Rattle.web_names.specs.Identifiers.{folded, id_of};
@@ -51,7 +51,7 @@ impl Model for Parts {
 
 impl Parts {
     ghost use Rattle.web_scan.specs.Scanned.{nothing_scanned};
-    ghost use Rattle.web_scan.specs.Limits.{with_room, stored, string_number, string_stored, section_begun};
+    ghost use Rattle.web_scan.specs.Refusals.{with_room, stored, string_number, string_stored, section_begun};
     ghost use Rattle.web_scan.specs.Texts.{word_stored, quoted_stored};
     ghost use Rattle.web_scan.specs.Definitions.{macro_defined, value_given};
     ghost use Rattle.web_scan.specs.Sections.{name_found, with_pascal_text};
@@ -107,8 +107,10 @@ impl Parts {
 
     // Stores a word of one letter.
     pub(crate) fn store_letter(&mut self, place: Place, letter: u8) -> Result<(), WorkErr>
-        ensures ok { OnOk result (stored place (tok.Letter (folded self.old.names.options.case letter)) self.old ≡ Ok self.new) }
-        ensures fault { IfFault result (λ fault. stored place (tok.Letter (folded self.old.names.options.case letter)) self.old ≡ Err fault) }
+        ensures ok { let token = tok.Letter (folded self.old.names.options.case letter) in
+            OnOk result (stored place token self.old ≡ Ok self.new) }
+        ensures fault { let token = tok.Letter (folded self.old.names.options.case letter) in
+            IfFault result (λ fault. stored place token self.old ≡ Err fault) }
         ensures grows { length self.old.tokens ≤ length self.new.tokens }
     {
         let options = self.options;
@@ -154,7 +156,8 @@ impl Parts {
     // Stores a string in double quotes with this value, as its number.
     pub(crate) fn store_string(&mut self, place: Place, value: &[u8]) -> Result<(), WorkErr>
         ensures ok { OnOk result (string_stored place self.old (numbered value.now self.old.strings) ≡ Ok self.new) }
-        ensures fault { IfFault result (λ fault. string_stored place self.old (numbered value.now self.old.strings) ≡ Err fault) }
+        ensures fault { IfFault result (λ fault.
+            string_stored place self.old (numbered value.now self.old.strings) ≡ Err fault) }
         ensures grows { length self.old.tokens ≤ length self.new.tokens }
     {
         match self.pool.add(value) {
@@ -169,8 +172,10 @@ impl Parts {
 
     // The number of a string in double quotes with this value.
     pub(crate) fn number_string(&mut self, place: Place, value: &[u8]) -> Result<u32, WorkErr>
-        ensures ok { IfOk result (λ number. string_number place self.old (numbered value.now self.old.strings) ≡ Ok (number, self.new)) }
-        ensures fault { IfFault result (λ fault. string_number place self.old (numbered value.now self.old.strings) ≡ Err fault) }
+        ensures ok { IfOk result (λ number.
+            string_number place self.old (numbered value.now self.old.strings) ≡ Ok (number, self.new)) }
+        ensures fault { IfFault result (λ fault.
+            string_number place self.old (numbered value.now self.old.strings) ≡ Err fault) }
         ensures few { IfOk result (λ number. number < 32768) }
         ensures names { self.new.names ≡ self.old.names }
     {
@@ -273,8 +278,8 @@ impl Parts {
         Ok(())
     }
 
-    // Adds the text of the last section: the tokens that were stored since there were so many, under the name with this
-    // place, or as one of the unnamed section.
+    // Adds the text of the last section: the tokens that were stored since there were so many, under the name with
+    // this place, or as one of the unnamed section.
     pub(crate) fn add_piece(&mut self, name: Option<u32>, first: u32) -> Result<(), WorkErr>
         requires { first ≤ length self.old.tokens }
         ensures ok { OnOk result (self.new ≡ with_pascal_text name (drop first self.old.tokens) self.old) }

@@ -1,5 +1,5 @@
 use Rattle.std.proofs.Common.{◌≡◌, Ok, sym, ap}
-use Rattle.web_scan.specs.Limits.{with_room}
+use Rattle.web_scan.specs.Refusals.{with_room}
 use Rattle.web_scan.proofs.PartsLemmas.{scanned_in-push}
 use Rattle.web_scan.proofs.parts.Parts.store.Goals as goal
 
