@@ -20,7 +20,12 @@ fn scan_text(alloc: Global, text: &[u8]) -> Result<Web, WorkErr> {
 }
 
 // A number between marks.
-fn push_marked(text: &mut Text, before: &[u8], value: i64, after: &[u8]) -> Result<(), OutOfMemory> {
+fn push_marked(
+    text: &mut Text,
+    before: &[u8],
+    value: i64,
+    after: &[u8],
+) -> Result<(), OutOfMemory> {
     text.push_all(before)?;
     text.push_number(value)?;
     text.push_all(after)

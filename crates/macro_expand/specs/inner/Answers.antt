@@ -1,7 +1,6 @@
 -- What the removal of a head answers, beside the definition.
-use Rattle.std.specs.Prelude.{ℕ, ◌≡◌, ◌≤◌, List, length, Option, Result, Ok, Err, IfSome, ⊤}
+use Rattle.std.specs.Prelude.{◌≡◌, ◌≤◌, List, length, Option, Result, Ok, Err, IfSome, ⊤}
 use Rattle.std.specs.Option.{option_map}
-use Rattle.wb_base.specs.declared.tokens.Tok.{Tok}
 use Rattle.web_scan.specs.Lawful.{IsLawful}
 use Rattle.macro_expand.specs.declared.items.Item.{Item}
 use Rattle.macro_expand.specs.declared.limits.TheConstants.{LEVEL_LIMIT}

@@ -1,4 +1,5 @@
-use Rattle.std.proofs.Common.{◌≡◌, ◌∙◌, ◌<◌, ◌≤◌, ◌+◌, ◌-◌, ◌*◌, ◌∷◌, [], None, length, take, get_or, sym, ap, arith, Fits, w64, refl}
+use Rattle.std.proofs.Common.{◌≡◌, ◌∙◌, ◌<◌, ◌-◌, ◌∷◌, [], length, take, get_or, sym, ap}
+use Rattle.std.proofs.Common.{arith}
 use Rattle.std.proofs.lemmas.List.{length-take-le}
 use Rattle.macro_expand.proofs.LevelsLemmas.{no_frame}
 use Rattle.macro_expand.specs.Expansion.{replaced}
@@ -6,7 +7,8 @@ use Rattle.macro_expand.specs.Flat.{followed_by, ends}
 use Rattle.macro_expand.specs.inner.Levels.{level_of, levels_of, list_of, argument_of, IsLevel}
 use Rattle.macro_expand.specs.inner.Places.{levels_at}
 use Rattle.macro_expand.proofs.LevelsLemmas.{length-levels_of, IsLevel-frame}
-use Rattle.macro_expand.proofs.StackLemmas.{Answers-as, AreLevels-opened, replaced-as, IsLevel-argument, list_of-argument, macro_level}
+use Rattle.macro_expand.proofs.StackLemmas.{Answers-as, AreLevels-opened, replaced-as, IsLevel-argument}
+use Rattle.macro_expand.proofs.StackLemmas.{list_of-argument, macro_level}
 use Rattle.macro_expand.proofs.StackLemmas.{argument_of-topmost}
 use Rattle.macro_expand.proofs.stack.Stack.open_argument.Goals as goal
 
@@ -37,12 +39,14 @@ open-requires-clause-levels c =
     let found = get_or items at no_frame in
     let kept : IsLevel web at (level_of found) =
     IsLevel-frame web [] items at at no_frame c.requires.sound.levels within (omega arith) in
-    AreLevels-opened web (length items) (macro_level found.argument.text.now found.argument.environment [] 0) (level_of c.of_argument.result) lower
+    AreLevels-opened web (length items) (macro_level found.argument.text.now found.argument.environment [] 0)
+    (level_of c.of_argument.result) lower
     (levels_at c.place_of.result items)
     (c.of_argument.ensures ∙ ap (λ items. let found = get_or items at no_frame in
-      macro_level found.argument.text.now found.argument.environment [] 0) c.deref.ensures.0)
+    macro_level found.argument.text.now found.argument.environment [] 0) c.deref.ensures.0)
     c.place_of.ensures.levels (omega arith)
-    (IsLevel-argument web (length items) found.argument.text.now found.argument.environment kept.argument (omega (arith, kept.meant)))
+    (IsLevel-argument web (length items) found.argument.text.now found.argument.environment kept.argument (omega
+    (arith, kept.meant)))
     c.requires.levels
 
 -- it gives the argument
@@ -61,16 +65,23 @@ returns-clause-answers c = λ lower is.
     let found = get_or items at no_frame in
     let kept : IsLevel web at (level_of found) =
     IsLevel-frame web [] items at at no_frame c.requires.sound.levels within (omega arith) in
-    Answers-as (replaced c.place_of.result.steps (list_of tokens (level_of c.of_argument.result ∷ levels_at c.place_of.result items)))
-    (replaced steps (followed_by (argument_of (top ∷ lower) at) (ends (list_of tokens (top ∷ lower))))) c.open.result c.open.new.self
-    (ap (λ lower. replaced steps (followed_by (argument_of (top ∷ lower) at) (ends (list_of tokens (top ∷ lower))))) is
+    Answers-as (replaced c.place_of.result.steps (list_of tokens (level_of c.of_argument.result ∷ levels_at
+    c.place_of.result items)))
+    (replaced steps (followed_by (argument_of (top ∷ lower) at) (ends (list_of tokens (top ∷ lower)))))
+    c.open.result c.open.new.self
+    (ap (λ lower. replaced steps (followed_by (argument_of (top ∷ lower) at) (ends (list_of tokens (top ∷
+    lower))))) is
     ∙ ap (λ given. replaced steps (followed_by given (ends (list_of tokens (top ∷ below)))))
     (argument_of-topmost web items c.args.top no_frame top at c.requires.sound.levels within c.requires.same)
     ∙ ap (replaced steps)
-    (sym (list_of-argument tokens found.argument.text.now found.argument.environment (top ∷ below) (omega (arith, kept.meant))))
-    ∙ replaced-as tokens steps c.place_of.result.steps (macro_level found.argument.text.now found.argument.environment [] 0)
+    (sym (list_of-argument tokens found.argument.text.now found.argument.environment (top ∷ below) (omega (
+      arith,
+      kept.meant,
+    ))))
+    ∙ replaced-as tokens steps c.place_of.result.steps (macro_level found.argument.text.now
+    found.argument.environment [] 0)
     (level_of c.of_argument.result) (top ∷ below) (levels_at c.place_of.result items)
     (c.of_argument.ensures ∙ ap (λ items. let found = get_or items at no_frame in
-      macro_level found.argument.text.now found.argument.environment [] 0) c.deref.ensures.0)
+    macro_level found.argument.text.now found.argument.environment [] 0) c.deref.ensures.0)
     c.place_of.ensures.levels c.place_of.ensures.steps)
     c.open.ensures.answers
