@@ -7,8 +7,8 @@ ghost use Rattle.macro_expand.specs.inner.Heads.{Splits, IsHeadOf};
 use wb_base::Tok;
 use web_scan::{Piece, Web};
 
-// What stands for a parameter: a part of the text of a level, and the number of the level whose argument a parameter in
-// that part stands for.
+// What stands for a parameter: a part of the text of a level, and the number of the level whose argument a parameter
+// in that part stands for.
 #[derive(Clone, Copy, Default)]
 pub(crate) struct Argument<'w> {
     pub(crate) text: &'w [Tok],

@@ -70,22 +70,29 @@ struct Row {
     fault: Option<ExpandErr>,
 }
 
+// Macros whose argument stands behind the end of their text.
+const HELPERS: &[u8] =
+    b"@ @d hlp1(#)==p(#);end\n@d hlp2(#)==p(#);hlp1\n@d help2==begin hlp2\n@p help2(a)(b)";
+
+// Numeric macros.
+const NUMERIC: &[u8] = b"@ @d mm=-3\n@d nn=mm+@'17+@\"F+\"a\"\n@p x*mm;x-mm;x:=nn";
+
 #[test]
 fn expands(rt: HostRuntime) -> Result<(), Fail> {
     #[rattlefmt::skip]
     let rows = [
         Row { web: b"@ @d aa==b", items: b"", fault: None },
         Row { web: b"@ @p aa@\\bb 'c'@=d@>@&:=7", items: b"{1:aa/bb'c'd&:=7:1}", fault: None },
-        Row { web: b"@ @d hlp1(#)==p(#);end\n@d hlp2(#)==p(#);hlp1\n@d help2==begin hlp2\n@p help2(a)(b)", items: b"{1:beginp(a);p(b);end:1}", fault: None },
+        Row { web: HELPERS, items: b"{1:beginp(a);p(b);end:1}", fault: None },
         Row { web: b"@ @d ff(#)==gg(#+#)\n@d gg(#)==#*#\n@p ff(k)", items: b"{1:k+k*k+k:1}", fault: None },
-        Row { web: b"@ @d ff(#)==gg(#+#)\n@d gg(#)==#*#\n@p ff;k", items: b"{1:", fault: Some(ExpandErr::NoParameter) },
+        Row { web: b"@ @d ff(#)==#\n@p ff;k", items: b"{1:", fault: Some(ExpandErr::NoParameter) },
         Row { web: b"@ @d ff(#)==#\n@p ff(ff(ff(k)))", items: b"{1:k:1}", fault: None },
         Row { web: b"@ @d ff(#)==#\n@p @<A@>(k)\n@ @<A@>=ff", items: b"{1:{2:", fault: Some(ExpandErr::NoParameter) },
         Row { web: b"@ @d aa==aa\n@p aa", items: b"{1:", fault: Some(ExpandErr::Levels) },
-        Row { web: b"@ @p @<Initialize@>@<Ini...@>\n@ @<Initialize@>=x;", items: b"{1:{2:x;:2}{2:x;:2}:1}", fault: None },
+        Row { web: b"@ @p @<Begin@>@<Be...@>\n@ @<Begin@>=x;", items: b"{1:{2:x;:2}{2:x;:2}:1}", fault: None },
         Row { web: b"@ @p @<Initialize@>@<Ini...@>", items: b"{1:", fault: Some(ExpandErr::NotPresent) },
         Row { web: b"@ @d ab==cd\n@p ab(ab)", items: b"{1:cd(cd):1}", fault: None },
-        Row { web: b"@ @d mm=-3\n@d nn=mm+@'17+@\"F+\"a\"\n@p x*mm;x-mm;x:=nn", items: b"{1:x*<-3>;x-<-3>;x:=<124>:1}", fault: None },
+        Row { web: NUMERIC, items: b"{1:x*<-3>;x-<-3>;x:=<124>:1}", fault: None },
         Row { web: b"@ @p @{@<X y@>@}\n@ @<X y@>=b;", items: b"{1:@{{2:b;:2}@}:1}", fault: None },
         Row { web: b"@ @p \"ab\" \"A\"", items: b"{1:<256><65>:1}", fault: None },
     ];
