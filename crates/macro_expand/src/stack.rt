@@ -170,10 +170,9 @@ impl<'w> Stack<'w> {
         requires levels { AreLevels self.old.web.now (level_of top ∷ lower_levels self.old) }
         requires same { HaveSameArgument
             (level_of (get_or self.old.frames.items (length self.old.frames.items - 1) top)) (level_of top) }
-        ensures answers { (lower : List Level) → lower ≡ lower_levels self.old
-            → Answers (replaced (self.old.steps - 1)
-            (followed_by (argument_of (level_of top.entry ∷ lower) top.entry.environment)
-            (ends (list_of self.old.web.now.tokens (level_of top.entry ∷ lower))))) result self.new }
+        ensures answers { let all = level_of top.entry ∷ lower_levels self.old in
+            Answers (replaced (self.old.steps - 1) (followed_by (argument_of all top.entry.environment)
+            (ends (list_of self.old.web.now.tokens all)))) result self.new }
         ensures unchanged { OnErr result (self.new ≡ self.old) }
         ensures foldable { GivesFoldable result }
         ensures sound { IsSound self.new }
@@ -241,14 +240,12 @@ impl<'w> Stack<'w> {
     ) -> Result<Option<Item<'w>>, ExpandErr>
         requires within { place.level < length self.old.frames.items }
         requires sound { IsSound self.old }
-        requires levels { AreLevels self.old.web.now (level_of place.top
-            ∷ levels_of (take place.level self.old.frames.items)) }
+        requires levels { AreLevels self.old.web.now (levels_at place self.old.frames.items) }
         requires text { IsTextOf self.old.web.now text.now }
         requires argument { IsTextOf self.old.web.now argument.text.now }
         requires environment { argument.environment ≤ place.level }
-        ensures answers { (lower : List Level) → lower ≡ level_of place.entry.top
-            ∷ levels_of (take place.entry.level self.old.frames.items)
-            → Answers (replaced place.entry.steps (text_before
+        ensures answers { let lower = levels_at place.entry self.old.frames.items in
+            Answers (replaced place.entry.steps (text_before
             (text_before (argument_of lower argument.entry.environment) argument.entry.text.now nothing) text.now
             (ends (list_of self.old.web.now.tokens lower)))) result self.new }
         ensures unchanged { OnErr result (self.new ≡ self.old) }
@@ -263,10 +260,9 @@ impl<'w> Stack<'w> {
     fn open(&mut self, place: Place<'w>, opened: Frame<'w>) -> Result<Option<Item<'w>>, ExpandErr>
         requires within { place.level < length self.old.frames.items }
         requires sound { IsSound self.old }
-        requires levels { AreLevels self.old.web.now (level_of opened ∷ level_of place.top
-            ∷ levels_of (take place.level self.old.frames.items)) }
+        requires levels { AreLevels self.old.web.now (level_of opened ∷ levels_at place self.old.frames.items) }
         ensures answers { Answers (replaced place.entry.steps (list_of self.old.web.now.tokens
-            (level_of opened.entry ∷ level_of place.entry.top ∷ levels_of (take place.entry.level self.old.frames.items))))
+            (level_of opened.entry ∷ levels_at place.entry self.old.frames.items)))
             result self.new }
         ensures unchanged { OnErr result (self.new ≡ self.old) }
         ensures foldable { GivesFoldable result }

@@ -51,10 +51,11 @@ open-requires-clause-levels c =
 
 -- it gives the argument
 pub returns-clause-answers : goal.returns-clause-answers
-returns-clause-answers c = λ lower is.
+returns-clause-answers c =
     let items = c.args.self.now.frames.items in
-    let below = levels_of (take (length items - 1) items) in
     let top = level_of c.args.top in
+    let below = levels_of (take (length items - 1) items) in
+    let all = top ∷ below in
     let long : length below ≡ length items - 1 =
     length-levels_of (take (length items - 1) items) ∙ length-take-le (length items - 1) items (omega arith) in
     let web = c.args.self.now.web.now in
@@ -63,25 +64,20 @@ returns-clause-answers c = λ lower is.
     let at = c.args.top.environment in
     let within : at < length items = omega (arith, c.requires.levels.0.environment) in
     let found = get_or items at no_frame in
+    let text = found.argument.text.now in
+    let meant = found.argument.environment in
     let kept : IsLevel web at (level_of found) =
     IsLevel-frame web [] items at at no_frame c.requires.sound.levels within (omega arith) in
-    Answers-as (replaced c.place_of.result.steps (list_of tokens (level_of c.of_argument.result ∷ levels_at
-    c.place_of.result items)))
-    (replaced steps (followed_by (argument_of (top ∷ lower) at) (ends (list_of tokens (top ∷ lower)))))
-    c.open.result c.open.new.self
-    (ap (λ lower. replaced steps (followed_by (argument_of (top ∷ lower) at) (ends (list_of tokens (top ∷
-    lower))))) is
-    ∙ ap (λ given. replaced steps (followed_by given (ends (list_of tokens (top ∷ below)))))
+    let under : meant < length all = omega (arith, kept.meant) in
+    let opened : level_of c.of_argument.result ≡ macro_level text meant [] 0 =
+    c.of_argument.ensures ∙ ap (λ items. let found = get_or items at no_frame in
+    macro_level found.argument.text.now found.argument.environment [] 0) c.deref.ensures.0 in
+    Answers-as (replaced c.place_of.result.steps (list_of tokens (level_of c.of_argument.result
+    ∷ levels_at c.place_of.result items)))
+    (replaced steps (followed_by (argument_of all at) (ends (list_of tokens all)))) c.open.result c.open.new.self
+    (ap (λ given. replaced steps (followed_by given (ends (list_of tokens all))))
     (argument_of-topmost web items c.args.top no_frame top at c.requires.sound.levels within c.requires.same)
-    ∙ ap (replaced steps)
-    (sym (list_of-argument tokens found.argument.text.now found.argument.environment (top ∷ below) (omega (
-      arith,
-      kept.meant,
-    ))))
-    ∙ replaced-as tokens steps c.place_of.result.steps (macro_level found.argument.text.now
-    found.argument.environment [] 0)
-    (level_of c.of_argument.result) (top ∷ below) (levels_at c.place_of.result items)
-    (c.of_argument.ensures ∙ ap (λ items. let found = get_or items at no_frame in
-    macro_level found.argument.text.now found.argument.environment [] 0) c.deref.ensures.0)
-    c.place_of.ensures.levels c.place_of.ensures.steps)
+    ∙ ap (replaced steps) (sym (list_of-argument tokens text meant all under))
+    ∙ replaced-as tokens steps c.place_of.result.steps (macro_level text meant [] 0) (level_of c.of_argument.result) all
+    (levels_at c.place_of.result items) opened c.place_of.ensures.levels c.place_of.ensures.steps)
     c.open.ensures.answers

@@ -1,4 +1,4 @@
-use Rattle.std.proofs.Common.{◌≡◌, ◌∙◌, ◌≤◌, ◌-◌, ◌∷◌, length, take, sym, ap, arith, refl}
+use Rattle.std.proofs.Common.{◌≡◌, ◌∙◌, ◌≤◌, ◌-◌, ◌∷◌, length, take, sym, ap, arith}
 use Rattle.std.proofs.lemmas.List.{length-take-le}
 use Rattle.std.proofs.lemmas.Result.{err_from_is_err_and}
 use Rattle.macro_expand.specs.Expansion.{replaced, with_argument}
@@ -130,4 +130,4 @@ returns-clause-answers c =
     ∙ ap (λ behind. replaced c.in_ok-argument.place.steps (text_before
     (text_before (argument_of behind argument.environment) argument.text.now nothing) text (ends (list_of
     web.tokens behind)))) same)
-    (c.open_text.ensures.answers behind refl)
+    c.open_text.ensures.answers

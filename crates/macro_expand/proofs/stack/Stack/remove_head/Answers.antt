@@ -1,5 +1,4 @@
 use Rattle.std.proofs.Common.{◌≡◌, ◌∙◌, ◌<◌, ◌-◌, ◌∷◌, None, Some, length, take, get_or, sym, ap, subst, arith}
-use Rattle.std.proofs.Common.{refl}
 use Rattle.macro_expand.proofs.LevelsLemmas.{no_frame}
 use Rattle.macro_expand.specs.declared.frames.Head.{Head}
 use Rattle.macro_expand.specs.Expansion.{removal, token_removed, replaced, meaning}
@@ -146,7 +145,7 @@ returns-in-Parameter-clause-answers c =
     Answers-as (replaced (steps - 1) (followed_by given (ends (list_of web.tokens (new ∷ lower)))))
     (removal web steps (list_left c.args.self.now)) c.open_argument.result c.open_argument.new.self
     (removal-of web steps items (top ∷ lower) (argument given (list_of web.tokens (new ∷ lower))) some parts split)
-    (c.open_argument.ensures.answers lower refl)
+    c.open_argument.ensures.answers
 
 pub returns-in-Open-clause-answers : goal.returns-in-Open-clause-answers
 returns-in-Open-clause-answers c =

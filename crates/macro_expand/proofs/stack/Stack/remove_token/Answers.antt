@@ -1,4 +1,4 @@
-use Rattle.std.proofs.Common.{◌∙◌, ◌-◌, ◌∷◌, List, length, take, sym, ap, refl}
+use Rattle.std.proofs.Common.{◌∙◌, ◌-◌, ◌∷◌, List, length, take, sym, ap}
 use Rattle.wb_base.specs.declared.tokens.Tok.{Tok}
 use Rattle.macro_expand.specs.Expansion.{replaced, token_removed, meaning}
 use Rattle.macro_expand.specs.Flat.{nothing, ends, text_before}
@@ -32,4 +32,4 @@ returns-in-Simple-clause-answers c =
     ∙ ap (λ steps. replaced steps (text_before (text_before (argument_of at none.environment) none.text.now
     nothing) text
     (ends (list_of tokens at)))) (sym c.place_of.ensures.steps))
-    (c.open_text.ensures.answers at refl)
+    c.open_text.ensures.answers
