@@ -1,10 +1,10 @@
 -- What names stand for.
-use Rattle.std.proofs.Common.{◌≡◌, ℕ, ℤ, pos, negsuc, List, [], ◌∷◌, map, Option, Some, None, nat_abs, refl, sym, ap, ◌∙◌, slice_get, unwrap_or, ◌<◌, w32, w64, arith, SFits, rules}
+use Rattle.std.proofs.Common.{◌≡◌, ℕ, ℤ, pos, negsuc, List, [], map, Some, nat_abs, sym}
+use Rattle.std.proofs.Common.{ap, ◌∙◌, slice_get, unwrap_or, ◌<◌, w32, w64, arith, SFits}
 use Rattle.std.proofs.lemmas.Int.{to_z-of_z}
 use Rattle.std.proofs.Math.Facts.{sfits_widen}
 use mir.Val.{to_z, of_z}
 use Rattle.wb_base.specs.declared.tokens.Tok.{Tok}
-use Rattle.web_names.specs.declared.classes.Class.{Class}
 use Rattle.web_names.specs.declared.classes.Class.TheVariants as class
 use Rattle.web_scan.specs.Pieces.{text_of_macro}
 use Rattle.web_scan.specs.Scanned.{Scanned}
@@ -21,7 +21,8 @@ name_meaning-numeric web id value at =
     ∙ ap (λ value. itself (number value)) found.value_is)
 
 -- the text of a macro that has one
-text_of-some : (web : Scanned) (value : ℤ) (text : List Tok) → slice_get web.texts (nat_abs value) ≡ Some text → text ≡ text_of web value
+text_of-some : (web : Scanned) (value : ℤ) (text : List Tok) → slice_get web.texts (nat_abs value) ≡ Some text
+    → text ≡ text_of web value
 text_of-some web value text is = sym (ap (λ found. unwrap_or found []) is)
 
 pub name_meaning-simple : (web : Scanned) (id : ℕ) (value : ℤ) (text : List Tok)

@@ -89,7 +89,8 @@ abbrev pub behind_opening : Flat → Result Flat ExpandErr
 behind_opening (token head rest) = if is_opening head then Ok rest else Err NoParameter
 behind_opening other = Err NoParameter
 
--- the text of a parametric macro goes to the front in place of the `(`, the argument and its `)`, of which the `(` was
+-- the text of a parametric macro goes to the front in place of the `(`, the argument and its `)`, of which the `(`
+-- was
 -- read
 abbrev pub argument_taken : List Tok → ℕ → Flat → Result Removal ExpandErr
 argument_taken text steps opened =

@@ -4,7 +4,8 @@ use Rattle.wb_base.specs.declared.tokens.Tok.{Tok}
 use Rattle.wb_base.specs.declared.tokens.Tok.TheVariants as tok
 use Rattle.web_scan.specs.Scanned.{PascalText}
 
--- a list: empty, or before the rest a token, the begin or the end of a piece of the section of a number, the end of a
+-- a list: empty, or before the rest a token, the begin or the end of a piece of the section of a number, the end of
+-- a
 -- level, or the argument that a parameter stands for, which is such a list itself
 pub data Flat : Type 0 where
   nothing : Flat
@@ -81,7 +82,8 @@ abbrev pub with_head : (Flat → Flat) → Parted → Parted
 with_head head parted =
     record { inside = head parted.inside; count = parted.count + 1; behind = parted.behind }
 
--- a list parted at the `)` that closes it, where so many parentheses are open within it. Parentheses balance in each
+-- a list parted at the `)` that closes it, where so many parentheses are open within it. Parentheses balance in
+-- each
 -- text, so this `)` stands before a mark and the end of the level
 abbrev pub parted : ℕ → Flat → Parted
 parted depth (token head rest) =

@@ -4,8 +4,10 @@ use Rattle.wb_base.specs.declared.tokens.Joined.{Joined}
 use Rattle.macro_expand.specs.declared.items.Item.{Item}
 use Rattle.macro_expand.specs.declared.items.Item.TheVariants as out
 
--- an item: a decimal digit, a constant, a word, a sign of one byte or of two, a single-quoted string with its quotes, a
--- verbatim text, a join, a forced line, the begin and end of a metacomment, and of a piece of the section of a number
+-- an item: a decimal digit, a constant, a word, a sign of one byte or of two, a single-quoted string with its
+-- quotes, a
+-- verbatim text, a join, a forced line, the begin and end of a metacomment, and of a piece of the section of a
+-- number
 pub data Expanded : Type 0 where
   digit : ℕ → Expanded
   number : ℤ → Expanded

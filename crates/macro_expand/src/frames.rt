@@ -7,8 +7,8 @@ ghost use Rattle.macro_expand.specs.inner.Heads.{Splits, IsHeadOf};
 use wb_base::Tok;
 use web_scan::{Piece, Web};
 
-// What stands for a parameter: a part of the text of a level, and the number of the level whose argument a parameter in
-// that part stands for.
+// What stands for a parameter: a part of the text of a level, and the number of the level whose argument a parameter
+// in that part stands for.
 #[derive(Clone, Copy, Default)]
 pub(crate) struct Argument<'w> {
     pub(crate) text: &'w [Tok],
@@ -42,8 +42,14 @@ pub(crate) enum Head<'w> {
 impl<'w> Frame<'w> {
     // The level of this number for the text of a macro with this argument.
     pub(crate) fn of_macro(text: &'w [Tok], argument: Argument<'w>, number: usize) -> Frame<'w>
-        ensures { level_of result ≡ record { text = text.now; section = None; pieces = []; environment = number;
-            argument = argument.entry.text.now; meant = argument.entry.environment } }
+        ensures { level_of result ≡ record {
+          text = text.now;
+          section = None;
+          pieces = [];
+          environment = number;
+          argument = argument.entry.text.now;
+          meant = argument.entry.environment;
+        } }
     {
         Frame {
             text,
@@ -56,8 +62,14 @@ impl<'w> Frame<'w> {
 
     // The level of this number for the texts of a section.
     pub(crate) fn of_pieces(pieces: &'w [Piece], number: usize) -> Frame<'w>
-        ensures { level_of result ≡ record { text = []; section = None; pieces = pieces.now; environment = number;
-            argument = []; meant = 0 } }
+        ensures { level_of result ≡ record {
+          text = [];
+          section = None;
+          pieces = pieces.now;
+          environment = number;
+          argument = [];
+          meant = 0;
+        } }
     {
         Frame {
             text: &[],
@@ -70,8 +82,14 @@ impl<'w> Frame<'w> {
 
     // A level for an argument.
     pub(crate) fn of_argument(argument: Argument<'w>) -> Frame<'w>
-        ensures { level_of result ≡ record { text = argument.entry.text.now; section = None; pieces = [];
-            environment = argument.entry.environment; argument = []; meant = 0 } }
+        ensures { level_of result ≡ record {
+          text = argument.entry.text.now;
+          section = None;
+          pieces = [];
+          environment = argument.entry.environment;
+          argument = [];
+          meant = 0;
+        } }
     {
         Frame {
             text: argument.text,

@@ -1,13 +1,14 @@
 //! The stack of open levels.
 ghost use Rattle.std.specs.Prelude.{◌≡◌, ◌+◌, ◌-◌, ◌<◌, ◌≤◌, ◌==◌, [], ◌∷◌, ◌++◌, List, length, take, get_or, OnErr};
 ghost use Rattle.web_scan.specs.Lawful.{IsTokenOf, IsTextOf};
+ghost use Rattle.web_scan.specs.Pieces.{pascal_texts_at};
 ghost use Rattle.macro_expand.specs.Expansion.{removal, token_removed, with_argument, replaced, meaning, section};
 ghost use Rattle.macro_expand.specs.Flat.{pieces_before, nothing, ends, followed_by, text_before};
-ghost use Rattle.macro_expand.specs.inner.Levels.{Level, level_of, levels_of, list_of, argument_of, AreLevels, HaveSameArgument};
-ghost use Rattle.web_scan.specs.Pieces.{pascal_texts_at};
+ghost use Rattle.macro_expand.specs.inner.Levels.{Level, level_of, levels_of, list_of, argument_of, AreLevels};
+ghost use Rattle.macro_expand.specs.inner.Levels.{HaveSameArgument};
 ghost use Rattle.macro_expand.specs.inner.Heads.{ArePiecesOf};
 ghost use Rattle.macro_expand.specs.inner.Places.{levels_at};
-ghost use Rattle.macro_expand.specs.inner.Answers.{levels, list_left, IsSound, Answers, GivesFoldable};
+ghost use Rattle.macro_expand.specs.inner.Answers.{lower_levels, list_left, IsSound, Answers, GivesFoldable};
 
 use crate::arguments::Place;
 use crate::frames::{Argument, Frame, Head};
@@ -89,8 +90,7 @@ impl<'w> Stack<'w> {
         requires sound { IsSound self.old }
         requires some { 0 < length self.old.frames.items }
         requires left { 0 < self.old.steps }
-        ensures list { list_left self.new ≡ list_of self.old.web.now.tokens (levels_of
-            (take (length self.old.frames.items - 1) self.old.frames.items)) }
+        ensures list { list_left self.new ≡ list_of self.old.web.now.tokens (lower_levels self.old) }
         ensures steps { self.new.steps ≡ self.old.steps - 1 }
         ensures sound { IsSound self.new }
         ensures web { self.new.web ≡ self.old.web }
@@ -105,10 +105,8 @@ impl<'w> Stack<'w> {
         requires sound { IsSound self.old }
         requires some { 0 < length self.old.frames.items }
         requires left { 0 < self.old.steps }
-        requires levels { AreLevels self.old.web.now (level_of top ∷ levels_of
-            (take (length self.old.frames.items - 1) self.old.frames.items)) }
-        ensures list { list_left self.new ≡ list_of self.old.web.now.tokens (level_of top.entry ∷ levels_of
-            (take (length self.old.frames.items - 1) self.old.frames.items)) }
+        requires levels { AreLevels self.old.web.now (level_of top ∷ lower_levels self.old) }
+        ensures list { list_left self.new ≡ list_of self.old.web.now.tokens (level_of top.entry ∷ lower_levels self.old) }
         ensures steps { self.new.steps ≡ self.old.steps - 1 }
         ensures sound { IsSound self.new }
         ensures web { self.new.web ≡ self.old.web }
@@ -124,7 +122,7 @@ impl<'w> Stack<'w> {
         requires left { 0 < self.now.steps }
         ensures level { result.level ≡ length self.now.frames.items - 1 }
         ensures levels { levels_at result self.now.frames.items
-            ≡ level_of top.entry ∷ levels_of (take (length self.now.frames.items - 1) self.now.frames.items) }
+            ≡ level_of top.entry ∷ lower_levels self.now }
         ensures steps { result.steps ≡ self.now.steps - 1 }
     {
         Place {
@@ -143,12 +141,10 @@ impl<'w> Stack<'w> {
         requires sound { IsSound self.old }
         requires some { 0 < length self.old.frames.items }
         requires left { 0 < self.old.steps }
-        requires levels { AreLevels self.old.web.now (level_of top ∷ levels_of
-            (take (length self.old.frames.items - 1) self.old.frames.items)) }
+        requires levels { AreLevels self.old.web.now (level_of top ∷ lower_levels self.old) }
         requires token { IsTokenOf self.old.web.now token.now }
         ensures answers { Answers (token_removed (self.old.steps - 1)
-            (list_of self.old.web.now.tokens (level_of top.entry ∷ levels_of
-            (take (length self.old.frames.items - 1) self.old.frames.items)))
+            (list_of self.old.web.now.tokens (level_of top.entry ∷ lower_levels self.old))
             (meaning self.old.web.now token.now)) result self.new }
         ensures unchanged { OnErr result (self.new ≡ self.old) }
         ensures foldable { GivesFoldable result }
@@ -171,15 +167,12 @@ impl<'w> Stack<'w> {
         requires sound { IsSound self.old }
         requires some { 0 < length self.old.frames.items }
         requires left { 0 < self.old.steps }
-        requires levels { AreLevels self.old.web.now (level_of top ∷ levels_of
-            (take (length self.old.frames.items - 1) self.old.frames.items)) }
+        requires levels { AreLevels self.old.web.now (level_of top ∷ lower_levels self.old) }
         requires same { HaveSameArgument
             (level_of (get_or self.old.frames.items (length self.old.frames.items - 1) top)) (level_of top) }
-        ensures answers { (lower : List Level) → lower ≡ levels_of
-            (take (length self.old.frames.items - 1) self.old.frames.items)
-            → Answers (replaced (self.old.steps - 1)
-            (followed_by (argument_of (level_of top.entry ∷ lower) top.entry.environment)
-            (ends (list_of self.old.web.now.tokens (level_of top.entry ∷ lower))))) result self.new }
+        ensures answers { let all = level_of top.entry ∷ lower_levels self.old in
+            Answers (replaced (self.old.steps - 1) (followed_by (argument_of all top.entry.environment)
+            (ends (list_of self.old.web.now.tokens all)))) result self.new }
         ensures unchanged { OnErr result (self.new ≡ self.old) }
         ensures foldable { GivesFoldable result }
         ensures sound { IsSound self.new }
@@ -198,12 +191,10 @@ impl<'w> Stack<'w> {
         requires sound { IsSound self.old }
         requires some { 0 < length self.old.frames.items }
         requires left { 0 < self.old.steps }
-        requires levels { AreLevels self.old.web.now (level_of top ∷ levels_of
-            (take (length self.old.frames.items - 1) self.old.frames.items)) }
+        requires levels { AreLevels self.old.web.now (level_of top ∷ lower_levels self.old) }
         requires text { IsTextOf self.old.web.now text.now }
         ensures answers { Answers (with_argument text.now (self.old.steps - 1)
-            (list_of self.old.web.now.tokens (level_of top.entry ∷ levels_of
-            (take (length self.old.frames.items - 1) self.old.frames.items)))) result self.new }
+            (list_of self.old.web.now.tokens (level_of top.entry ∷ lower_levels self.old))) result self.new }
         ensures unchanged { OnErr result (self.new ≡ self.old) }
         ensures foldable { GivesFoldable result }
         ensures sound { IsSound self.new }
@@ -223,12 +214,10 @@ impl<'w> Stack<'w> {
         requires sound { IsSound self.old }
         requires some { 0 < length self.old.frames.items }
         requires left { 0 < self.old.steps }
-        requires levels { AreLevels self.old.web.now (level_of top ∷ levels_of
-            (take (length self.old.frames.items - 1) self.old.frames.items)) }
+        requires levels { AreLevels self.old.web.now (level_of top ∷ lower_levels self.old) }
         requires pieces { ArePiecesOf self.old.web.now pieces.now }
         ensures answers { Answers (token_removed (self.old.steps - 1)
-            (list_of self.old.web.now.tokens (level_of top.entry ∷ levels_of
-            (take (length self.old.frames.items - 1) self.old.frames.items)))
+            (list_of self.old.web.now.tokens (level_of top.entry ∷ lower_levels self.old))
             (section (pascal_texts_at self.old.web.now.tokens pieces.now))) result self.new }
         ensures unchanged { OnErr result (self.new ≡ self.old) }
         ensures foldable { GivesFoldable result }
@@ -251,14 +240,12 @@ impl<'w> Stack<'w> {
     ) -> Result<Option<Item<'w>>, ExpandErr>
         requires within { place.level < length self.old.frames.items }
         requires sound { IsSound self.old }
-        requires levels { AreLevels self.old.web.now (level_of place.top
-            ∷ levels_of (take place.level self.old.frames.items)) }
+        requires levels { AreLevels self.old.web.now (levels_at place self.old.frames.items) }
         requires text { IsTextOf self.old.web.now text.now }
         requires argument { IsTextOf self.old.web.now argument.text.now }
         requires environment { argument.environment ≤ place.level }
-        ensures answers { (lower : List Level) → lower ≡ level_of place.entry.top
-            ∷ levels_of (take place.entry.level self.old.frames.items)
-            → Answers (replaced place.entry.steps (text_before
+        ensures answers { let lower = levels_at place.entry self.old.frames.items in
+            Answers (replaced place.entry.steps (text_before
             (text_before (argument_of lower argument.entry.environment) argument.entry.text.now nothing) text.now
             (ends (list_of self.old.web.now.tokens lower)))) result self.new }
         ensures unchanged { OnErr result (self.new ≡ self.old) }
@@ -273,10 +260,9 @@ impl<'w> Stack<'w> {
     fn open(&mut self, place: Place<'w>, opened: Frame<'w>) -> Result<Option<Item<'w>>, ExpandErr>
         requires within { place.level < length self.old.frames.items }
         requires sound { IsSound self.old }
-        requires levels { AreLevels self.old.web.now (level_of opened ∷ level_of place.top
-            ∷ levels_of (take place.level self.old.frames.items)) }
+        requires levels { AreLevels self.old.web.now (level_of opened ∷ levels_at place self.old.frames.items) }
         ensures answers { Answers (replaced place.entry.steps (list_of self.old.web.now.tokens
-            (level_of opened.entry ∷ level_of place.entry.top ∷ levels_of (take place.entry.level self.old.frames.items))))
+            (level_of opened.entry ∷ levels_at place.entry self.old.frames.items)))
             result self.new }
         ensures unchanged { OnErr result (self.new ≡ self.old) }
         ensures foldable { GivesFoldable result }

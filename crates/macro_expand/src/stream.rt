@@ -48,11 +48,11 @@ impl<'w> Stream<'w> {
     pub fn next(&mut self) -> Result<Option<Item<'w>>, ExpandErr>
         ensures item { IfOk result (λ found. IfSome found (λ item.
             self.old ≡ record { items = item_of item ∷ self.new.items; fault = self.new.fault })) }
-        ensures end { IfOk result (λ found. IfNone found (self.old ≡ stopped None)) }
+        ensures none { IfOk result (λ found. IfNone found (self.old ≡ stopped None)) }
         ensures fault { IfErr result (λ fault. self.old ≡ stopped (Some fault)) }
         ensures unchanged { OnErr result (self.new ≡ self.old) }
-        ensures unchanged_at_end { IfOk result (λ found. IfNone found (self.new ≡ self.old)) }
-        ensures foldable { IfOk result (λ found. IfSome found (λ item. IsFoldable (item_of item))) }
+        ensures none_unchanged { IfOk result (λ found. IfNone found (self.new ≡ self.old)) }
+        ensures lawful { IfOk result (λ found. IfSome found (λ item. IsFoldable (item_of item))) }
     {
         'removed: while !self.stack.is_empty() {
             if let Some(item) = self.stack.remove_head()? {

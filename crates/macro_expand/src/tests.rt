@@ -20,7 +20,12 @@ fn scan_text(alloc: Global, text: &[u8]) -> Result<Web, WorkErr> {
 }
 
 // A number between marks.
-fn push_marked(text: &mut Text, before: &[u8], value: i64, after: &[u8]) -> Result<(), OutOfMemory> {
+fn push_marked(
+    text: &mut Text,
+    before: &[u8],
+    value: i64,
+    after: &[u8],
+) -> Result<(), OutOfMemory> {
     text.push_all(before)?;
     text.push_number(value)?;
     text.push_all(after)
@@ -65,22 +70,29 @@ struct Row {
     fault: Option<ExpandErr>,
 }
 
+// Macros whose argument stands behind the end of their text.
+const HELPERS: &[u8] =
+    b"@ @d hlp1(#)==p(#);end\n@d hlp2(#)==p(#);hlp1\n@d help2==begin hlp2\n@p help2(a)(b)";
+
+// Numeric macros.
+const NUMERIC: &[u8] = b"@ @d mm=-3\n@d nn=mm+@'17+@\"F+\"a\"\n@p x*mm;x-mm;x:=nn";
+
 #[test]
 fn expands(rt: HostRuntime) -> Result<(), Fail> {
     #[rattlefmt::skip]
     let rows = [
         Row { web: b"@ @d aa==b", items: b"", fault: None },
         Row { web: b"@ @p aa@\\bb 'c'@=d@>@&:=7", items: b"{1:aa/bb'c'd&:=7:1}", fault: None },
-        Row { web: b"@ @d hlp1(#)==p(#);end\n@d hlp2(#)==p(#);hlp1\n@d help2==begin hlp2\n@p help2(a)(b)", items: b"{1:beginp(a);p(b);end:1}", fault: None },
+        Row { web: HELPERS, items: b"{1:beginp(a);p(b);end:1}", fault: None },
         Row { web: b"@ @d ff(#)==gg(#+#)\n@d gg(#)==#*#\n@p ff(k)", items: b"{1:k+k*k+k:1}", fault: None },
-        Row { web: b"@ @d ff(#)==gg(#+#)\n@d gg(#)==#*#\n@p ff;k", items: b"{1:", fault: Some(ExpandErr::NoParameter) },
+        Row { web: b"@ @d ff(#)==#\n@p ff;k", items: b"{1:", fault: Some(ExpandErr::NoParameter) },
         Row { web: b"@ @d ff(#)==#\n@p ff(ff(ff(k)))", items: b"{1:k:1}", fault: None },
         Row { web: b"@ @d ff(#)==#\n@p @<A@>(k)\n@ @<A@>=ff", items: b"{1:{2:", fault: Some(ExpandErr::NoParameter) },
         Row { web: b"@ @d aa==aa\n@p aa", items: b"{1:", fault: Some(ExpandErr::Levels) },
-        Row { web: b"@ @p @<Initialize@>@<Ini...@>\n@ @<Initialize@>=x;", items: b"{1:{2:x;:2}{2:x;:2}:1}", fault: None },
+        Row { web: b"@ @p @<Begin@>@<Be...@>\n@ @<Begin@>=x;", items: b"{1:{2:x;:2}{2:x;:2}:1}", fault: None },
         Row { web: b"@ @p @<Initialize@>@<Ini...@>", items: b"{1:", fault: Some(ExpandErr::NotPresent) },
         Row { web: b"@ @d ab==cd\n@p ab(ab)", items: b"{1:cd(cd):1}", fault: None },
-        Row { web: b"@ @d mm=-3\n@d nn=mm+@'17+@\"F+\"a\"\n@p x*mm;x-mm;x:=nn", items: b"{1:x*<-3>;x-<-3>;x:=<124>:1}", fault: None },
+        Row { web: NUMERIC, items: b"{1:x*<-3>;x-<-3>;x:=<124>:1}", fault: None },
         Row { web: b"@ @p @{@<X y@>@}\n@ @<X y@>=b;", items: b"{1:@{{2:b;:2}@}:1}", fault: None },
         Row { web: b"@ @p \"ab\" \"A\"", items: b"{1:<256><65>:1}", fault: None },
     ];
@@ -106,32 +118,17 @@ fn chain(alloc: Global, used: i64) -> Result<Text, OutOfMemory> {
     Ok(text)
 }
 
-// A web whose macros double 30 times.
-fn doubling(alloc: Global) -> Result<Text, OutOfMemory> {
-    let mut text = Text::new(alloc);
-    text.push_all(b"@ @d b30==\n")?;
-    for number in 0..30 {
-        push_marked(&mut text, b"@d b", number, b"==b")?;
-        push_marked(&mut text, b"", number + 1, b" b")?;
-        push_marked(&mut text, b"", number + 1, b"\n")?;
-    }
-    text.push_all(b"@p b0")?;
-    Ok(text)
-}
-
 #[test]
-fn obeys_limits(rt: HostRuntime) -> Result<(), Fail> {
+fn obeys_the_limit_of_levels(rt: HostRuntime) -> Result<(), Fail> {
     let alloc = rt.alloc();
     let let_through = scan_text(alloc, chain(alloc, 198)?.bytes())?;
     let (items, fault) = expanded(alloc, &let_through)?;
     assert_eq!(rt; items.bytes(), b"{1:x:1}".as_slice());
     assert_eq!(rt; fault, None);
     let too_deep = scan_text(alloc, chain(alloc, 199)?.bytes())?;
-    assert_eq!(rt; expanded(alloc, &too_deep)?.1, Some(ExpandErr::Levels));
-    let too_long = scan_text(alloc, doubling(alloc)?.bytes())?;
-    let mut stream = Stream::new(&too_long);
+    let mut stream = Stream::new(&too_deep);
     assert!(rt; matches!(stream.next(), Ok(Some(Item::Open(1)))));
-    assert!(rt; matches!(stream.next(), Err(ExpandErr::Steps)));
-    assert!(rt; matches!(stream.next(), Err(ExpandErr::Steps)));
+    assert!(rt; matches!(stream.next(), Err(ExpandErr::Levels)));
+    assert!(rt; matches!(stream.next(), Err(ExpandErr::Levels)));
     Ok(())
 }

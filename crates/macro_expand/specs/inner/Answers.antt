@@ -1,7 +1,6 @@
 -- What the removal of a head answers, beside the definition.
-use Rattle.std.specs.Prelude.{ℕ, ◌≡◌, ◌≤◌, List, length, Option, Result, Ok, Err, IfSome, ⊤}
+use Rattle.std.specs.Prelude.{◌≡◌, ◌-◌, ◌≤◌, List, take, length, Option, Result, Ok, Err, IfSome, ⊤}
 use Rattle.std.specs.Option.{option_map}
-use Rattle.wb_base.specs.declared.tokens.Tok.{Tok}
 use Rattle.web_scan.specs.Lawful.{IsLawful}
 use Rattle.macro_expand.specs.declared.items.Item.{Item}
 use Rattle.macro_expand.specs.declared.limits.TheConstants.{LEVEL_LIMIT}
@@ -13,13 +12,13 @@ use Rattle.macro_expand.specs.Foldable.{IsFoldable}
 use Rattle.macro_expand.specs.Items.{item_of}
 use Rattle.macro_expand.specs.inner.Levels.{Level, levels_of, list_of, AreLevels}
 
--- the levels of a stack
-abbrev pub levels : Stack → List Level
-levels stack = levels_of stack.frames.items
+-- the levels below the topmost
+abbrev pub lower_levels : Stack → List Level
+lower_levels stack = levels_of (take (length stack.frames.items - 1) stack.frames.items)
 
 -- the flat list that a stack stands for
 abbrev pub list_left : Stack → Flat
-list_left stack = list_of stack.web.now.tokens (levels stack)
+list_left stack = list_of stack.web.now.tokens (levels_of stack.frames.items)
 
 -- the web is lawful, the levels of a stack are levels of it, and they are not too many
 pub record IsSound (stack : Stack) : Type 0 where

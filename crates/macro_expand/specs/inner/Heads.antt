@@ -1,5 +1,5 @@
 -- The head of a level, and what a token stands for in code.
-use Rattle.std.specs.Prelude.{ℕ, ◌≡◌, List, ◌∷◌, length, All, ⊤}
+use Rattle.std.specs.Prelude.{◌≡◌, List, ◌∷◌, length, All, ⊤}
 use Rattle.wb_base.specs.declared.tokens.Tok.{Tok}
 use Rattle.web_scan.specs.declared.pieces.Piece.{Piece}
 use Rattle.web_scan.specs.Lawful.{IsTokenOf, IsTextOf, IsPascalTextOf}
@@ -10,18 +10,22 @@ use Rattle.macro_expand.specs.declared.frames.Head.TheVariants as head
 use Rattle.macro_expand.specs.declared.meanings.Meaning.{Meaning}
 use Rattle.macro_expand.specs.declared.meanings.Meaning.TheVariants as code
 use Rattle.macro_expand.specs.Expansion as spec
-use Rattle.macro_expand.specs.Flat.{Flat, token, opens, closes, ends, argument}
+use Rattle.macro_expand.specs.Flat.{token, opens, closes, ends, argument}
 use Rattle.macro_expand.specs.Foldable.{IsFoldable}
 use Rattle.macro_expand.specs.Items.{item_of}
 use Rattle.macro_expand.specs.inner.Levels.{Level, argument_of, list_of}
 
 -- the head of a level before the level behind it, both over these lower levels
 abbrev pub Splits : List Tok → List Level → Level → Head → Level → Type 0
-Splits tokens lower old (head.Token read) new = list_of tokens (old ∷ lower) ≡ token read.now (list_of tokens (new ∷ lower))
+Splits tokens lower old (head.Token read) new = list_of tokens (old ∷ lower)
+    ≡ token read.now (list_of tokens (new ∷ lower))
 Splits tokens lower old head.Parameter new =
-    list_of tokens (old ∷ lower) ≡ argument (argument_of (new ∷ lower) new.environment) (list_of tokens (new ∷ lower))
-Splits tokens lower old (head.Open number) new = list_of tokens (old ∷ lower) ≡ opens number (list_of tokens (new ∷ lower))
-Splits tokens lower old (head.Close number) new = list_of tokens (old ∷ lower) ≡ closes number (list_of tokens (new ∷ lower))
+    list_of tokens (old ∷ lower) ≡ argument (argument_of (new ∷ lower) new.environment) (list_of tokens (new ∷
+    lower))
+Splits tokens lower old (head.Open number) new = list_of tokens (old ∷ lower)
+    ≡ opens number (list_of tokens (new ∷ lower))
+Splits tokens lower old (head.Close number) new = list_of tokens (old ∷ lower)
+    ≡ closes number (list_of tokens (new ∷ lower))
 Splits tokens lower old head.End new = list_of tokens (old ∷ lower) ≡ ends (list_of tokens lower)
 
 -- a token that is a head is one of the web

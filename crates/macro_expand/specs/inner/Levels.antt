@@ -1,5 +1,6 @@
 -- How the open levels stand for the flat list. They are told the topmost first, and numbered from 0, the lowest.
-use Rattle.std.specs.Prelude.{ℕ, ◌≡◌, ◌+◌, ◌<◌, ◌≤◌, ◌==◌, ◌&&◌, Bool, if◌then◌else◌, List, [], ◌∷◌, length, All, IsTrue, ⊤}
+use Rattle.std.specs.Prelude.{ℕ, ◌≡◌, ◌<◌, ◌≤◌, ◌==◌, ◌&&◌, Bool, if◌then◌else◌, List, [], ◌∷◌, length, All}
+use Rattle.std.specs.Prelude.{IsTrue, ⊤}
 use Rattle.std.specs.Prelude.{Option, Some, None, is_none}
 use Rattle.wb_base.specs.declared.tokens.Tok.{Tok}
 use Rattle.web_scan.specs.declared.pieces.Piece.{Piece}
@@ -9,8 +10,10 @@ use Rattle.web_scan.specs.Scanned.{PascalText, Scanned}
 use Rattle.macro_expand.specs.declared.frames.Frame.{Frame}
 use Rattle.macro_expand.specs.Flat.{Flat, nothing, opens, closes, ends, text_before}
 
--- an open level: the rest of the text that is read, the number of the section whose text that is, the pieces behind it,
--- the number of the level whose argument a parameter stands for; and the level's own argument, with the number of the
+-- an open level: the rest of the text that is read, the number of the section whose text that is, the pieces behind
+-- it,
+-- the number of the level whose argument a parameter stands for; and the level's own argument, with the number of
+-- the
 -- level whose argument a parameter in it stands for
 pub record Level : Type 0 where
   pub text : List Tok
@@ -80,7 +83,8 @@ pub record IsRest (web : Scanned) (text : List Tok) : Type 0 where
   pub depth : ℕ
   pub balanced : IsTrue (is_balanced_from depth text)
 
--- a level with this number: the level whose argument its parameters stand for is open, and that of its argument lies
+-- a level with this number: the level whose argument its parameters stand for is open, and that of its argument
+-- lies
 -- below it
 pub record IsLevel (web : Scanned) (number : ℕ) (level : Level) : Type 0 where
   pub text : IsRest web level.text

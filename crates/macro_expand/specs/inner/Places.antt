@@ -1,5 +1,6 @@
 -- Places in the stack, and the argument that is taken at one.
-use Rattle.std.specs.Prelude.{ℕ, suc, ◌≡◌, ◌≤◌, ◌==◌, ◌&&◌, if◌then◌else◌, List, [], ◌∷◌, length, take, Option, Some, None}
+use Rattle.std.specs.Prelude.{ℕ, suc, ◌≡◌, ◌≤◌, ◌==◌, ◌&&◌, if◌then◌else◌, List, [], ◌∷◌, length, take, Option}
+use Rattle.std.specs.Prelude.{Some, None}
 use Rattle.std.specs.Option.{option_map}
 use Rattle.wb_base.specs.declared.tokens.Tok.{Tok}
 use Rattle.web_scan.specs.Lawful.{IsTextOf}
@@ -8,7 +9,7 @@ use Rattle.macro_expand.specs.declared.arguments.Place.{Place}
 use Rattle.macro_expand.specs.declared.frames.Argument.{Argument}
 use Rattle.macro_expand.specs.declared.frames.Frame.{Frame}
 use Rattle.macro_expand.specs.Expansion.{replaced, with_argument}
-use Rattle.macro_expand.specs.Flat.{Flat, nothing, ends, text_before, is_closing, depth_behind}
+use Rattle.macro_expand.specs.Flat.{nothing, ends, text_before, is_closing, depth_behind}
 use Rattle.macro_expand.specs.inner.Levels.{Level, level_of, levels_of, list_of, argument_of, AreLevels}
 
 -- how many tokens stand before the `)` that closes a text, in which so many parentheses are open
@@ -22,10 +23,12 @@ abbrev pub levels_at : Place → List Frame → List Level
 levels_at place lower = level_of place.top ∷ levels_of (take place.level lower)
 
 -- the argument that is taken at a place over these levels, and the place behind it
-pub record IsTaken (web : Scanned) (lower : List Level) (place : Place) (argument : Argument) (after : Place) : Type 0 where
+pub record IsTaken (web : Scanned) (lower : List Level) (place : Place) (argument : Argument) (after : Place) :
+    Type 0 where
   pub list : (text : List Tok) → with_argument text place.steps (list_of web.tokens (level_of place.top ∷ lower))
       ≡ replaced after.steps
-      (text_before (text_before (argument_of (level_of after.top ∷ lower) argument.environment) argument.text.now nothing) text
+      (text_before (text_before (argument_of (level_of after.top ∷ lower) argument.environment) argument.text.now
+      nothing) text
       (ends (list_of web.tokens (level_of after.top ∷ lower))))
   pub levels : AreLevels web (level_of after.top ∷ lower)
   pub text : IsTextOf web argument.text.now

@@ -1,6 +1,6 @@
-use Rattle.std.proofs.Common.{◌≡◌, ◌∙◌, ◌∷◌, ◌++◌, [], ap, refl}
+use Rattle.std.proofs.Common.{◌∙◌, ◌∷◌, ◌++◌, [], ap, refl}
 use Rattle.macro_expand.specs.Flat.{nothing, ends, pieces_before}
-use Rattle.macro_expand.specs.inner.Levels.{level_of, levels_of, list_of}
+use Rattle.macro_expand.specs.inner.Levels.{list_of}
 use Rattle.macro_expand.proofs.StackLemmas.{levels_of-put, list_of-section}
 use Rattle.macro_expand.proofs.stack.Stack.new.Goals as goal
 

@@ -1,4 +1,4 @@
-use Rattle.std.proofs.Common.{◌≡◌, ◌∙◌, ◌<◌, ◌≤◌, ◌-◌, ◌∷◌, length, take, sym, ap, arith, refl}
+use Rattle.std.proofs.Common.{◌≡◌, ◌∙◌, ◌≤◌, ◌-◌, ◌∷◌, length, take, sym, ap, arith}
 use Rattle.std.proofs.lemmas.List.{length-take-le}
 use Rattle.std.proofs.lemmas.Result.{err_from_is_err_and}
 use Rattle.macro_expand.specs.Expansion.{replaced, with_argument}
@@ -16,8 +16,10 @@ returns-in_err-place-clause-answers c =
     let lower = level_of c.args.top ∷ levels_of (take (length items - 1) items) in
     let web = c.args.self.now.web.now in
     let p = err_from_is_err_and c.from_residual.result c.from_residual.ensures.1 in
-    rw (p.1, p.2) (sought_at web.tokens c.args.text.now (c.args.self.now.steps - 1) lower c.place_of.result items c.deref.result.now
-    c.place_of.ensures.levels c.place_of.ensures.steps c.deref.ensures.0 ∙ c.in_err-place.ensures.refused web c.args.text.now)
+    rw (p.1, p.2) (sought_at web.tokens c.args.text.now (c.args.self.now.steps - 1) lower c.place_of.result items
+    c.deref.result.now
+    c.place_of.ensures.levels c.place_of.ensures.steps c.deref.ensures.0
+    ∙ c.in_err-place.ensures.refused web c.args.text.now)
 
 pub returns-in_err-argument-clause-answers : goal.returns-in_err-argument-clause-answers
 returns-in_err-argument-clause-answers c =
@@ -32,7 +34,8 @@ returns-in_err-argument-clause-answers c =
     let p = err_from_is_err_and c.from_residual-in_err-argument.result c.from_residual-in_err-argument.ensures.1 in
     rw (p.1, p.2) (sought_at web.tokens text (c.args.self.now.steps - 1) lower c.place_of.result items frames
     c.place_of.ensures.levels c.place_of.ensures.steps c.deref.ensures.0 ∙ c.in_ok-place.ensures.found web text
-    ∙ c.in_err-argument.ensures.refused web (levels_of (take c.in_ok-place.place.level frames)) text (c.in_ok-place.ensures.kept web here))
+    ∙ c.in_err-argument.ensures.refused web (levels_of (take c.in_ok-place.place.level frames)) text
+    (c.in_ok-place.ensures.kept web here))
 
 -- the level behind the argument
 pub open_text-requires-clause-within : goal.open_text-requires-clause-within
@@ -63,7 +66,8 @@ open_text-requires-clause-levels c =
     c.in_ok-argument.ensures.taken web below (c.in_ok-place.ensures.kept web here) in
     AreLevels-as web (levels_at c.in_ok-argument.place items) (level_of c.in_ok-argument.place.top ∷ below)
     (ap (λ level. level_of c.in_ok-argument.place.top ∷ levels_of (take level items)) taken.level
-    ∙ ap (λ frames. level_of c.in_ok-argument.place.top ∷ levels_of (take c.in_ok-place.place.level frames)) (sym c.deref.ensures.0)) taken.levels
+    ∙ ap (λ frames. level_of c.in_ok-argument.place.top ∷ levels_of (take c.in_ok-place.place.level frames)) (sym
+    c.deref.ensures.0)) taken.levels
 
 pub open_text-requires-clause-argument : goal.open_text-requires-clause-argument
 open_text-requires-clause-argument c =
@@ -74,7 +78,8 @@ open_text-requires-clause-argument c =
     let here : AreLevels web (levels_at c.place_of.result frames) =
     AreLevels-as web (levels_at c.place_of.result frames) lower
     (ap (levels_at c.place_of.result) c.deref.ensures.0 ∙ c.place_of.ensures.levels) c.requires.levels in
-    (c.in_ok-argument.ensures.taken web (levels_of (take c.in_ok-place.place.level frames)) (c.in_ok-place.ensures.kept web here)).text
+    (c.in_ok-argument.ensures.taken web (levels_of (take c.in_ok-place.place.level frames))
+    (c.in_ok-place.ensures.kept web here)).text
 
 pub open_text-requires-clause-environment : goal.open_text-requires-clause-environment
 open_text-requires-clause-environment c =
@@ -91,7 +96,8 @@ open_text-requires-clause-environment c =
     let inside : c.in_ok-place.place.level ≤ length frames =
     omega (arith, c.in_ok-place.ensures.lower, c.place_of.ensures.level, ap length c.deref.ensures.0) in
     let long : length below ≡ c.in_ok-place.place.level =
-    length-levels_of (take c.in_ok-place.place.level frames) ∙ length-take-le c.in_ok-place.place.level frames inside in
+    length-levels_of (take c.in_ok-place.place.level frames) ∙ length-take-le c.in_ok-place.place.level frames
+    inside in
     omega (arith, taken.level, taken.environment)
 
 pub returns-clause-answers : goal.returns-clause-answers
@@ -111,13 +117,17 @@ returns-clause-answers c =
     let behind = levels_at c.in_ok-argument.place items in
     let argument = c.in_ok-argument.argument in
     let same : level_of c.in_ok-argument.place.top ∷ below ≡ behind =
-    ap (λ frames. level_of c.in_ok-argument.place.top ∷ levels_of (take c.in_ok-place.place.level frames)) c.deref.ensures.0
+    ap (λ frames. level_of c.in_ok-argument.place.top ∷ levels_of (take c.in_ok-place.place.level frames))
+    c.deref.ensures.0
     ∙ ap (λ level. level_of c.in_ok-argument.place.top ∷ levels_of (take level items)) (sym taken.level) in
     Answers-as (replaced c.in_ok-argument.place.steps (text_before
-    (text_before (argument_of behind argument.environment) argument.text.now nothing) text (ends (list_of web.tokens behind))))
+    (text_before (argument_of behind argument.environment) argument.text.now nothing) text (ends (list_of
+    web.tokens behind))))
     (with_argument text steps (list_of web.tokens lower)) c.open_text.result c.open_text.new.self
-    (sought_at web.tokens text steps lower c.place_of.result items frames c.place_of.ensures.levels c.place_of.ensures.steps c.deref.ensures.0
+    (sought_at web.tokens text steps lower c.place_of.result items frames c.place_of.ensures.levels
+    c.place_of.ensures.steps c.deref.ensures.0
     ∙ c.in_ok-place.ensures.found web text ∙ taken.list text
     ∙ ap (λ behind. replaced c.in_ok-argument.place.steps (text_before
-    (text_before (argument_of behind argument.environment) argument.text.now nothing) text (ends (list_of web.tokens behind)))) same)
-    (c.open_text.ensures.answers behind refl)
+    (text_before (argument_of behind argument.environment) argument.text.now nothing) text (ends (list_of
+    web.tokens behind)))) same)
+    c.open_text.ensures.answers

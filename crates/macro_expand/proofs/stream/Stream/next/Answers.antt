@@ -17,7 +17,8 @@ returns-in_err-item-clause-fault c =
     let some : 0 < length stack.frames.items = omega (arith, eqb-false (length stack.frames.items) 0 test) in
     let p = err_from_is_err_and c.from_residual.result c.from_residual.ensures.1 in
     rw (p.1, p.2) (sym c.removed.invariant.same
-    ∙ given-err stack.web.now stack.steps (list_left stack) c.in_err-item.field-0.0 (IsLeft-levels stack.web.now.tokens stack.frames.items some)
+    ∙ given-err stack.web.now stack.steps (list_left stack) c.in_err-item.field-0.0 (IsLeft-levels
+    stack.web.now.tokens stack.frames.items some)
     c.in_err-item.ensures.answers)
 
 -- the head gives an item
@@ -28,9 +29,12 @@ returns-in-Some-clause-item c =
     let test : (length stack.frames.items == 0) ≡ false = sym c.is_empty.ensures ∙ c.removed-test.true in
     let some : 0 < length stack.frames.items = omega (arith, eqb-false (length stack.frames.items) 0 test) in
     sym c.removed.invariant.same
-    ∙ given-ok stack.web.now after.web.now stack.steps after.steps (list_left stack) (list_left after) (option_map item_of c.in_ok-item.field-0)
-    (IsLeft-levels stack.web.now.tokens stack.frames.items some) (ap (λ web. web.now) c.remove_head.ensures.web) c.in_ok-item.ensures.answers
-    ∙ ap (λ found. with_item (option_map item_of found) (given_by after.web.now after.steps (list_left after))) c.in-Some.is
+    ∙ given-ok stack.web.now after.web.now stack.steps after.steps (list_left stack) (list_left after) (option_map
+    item_of c.in_ok-item.field-0)
+    (IsLeft-levels stack.web.now.tokens stack.frames.items some) (ap (λ web. web.now) c.remove_head.ensures.web)
+    c.in_ok-item.ensures.answers
+    ∙ ap (λ found. with_item (option_map item_of found) (given_by after.web.now after.steps (list_left after)))
+    c.in-Some.is
 
 -- the head gives none
 pub removed-smaller : goal.removed-smaller
@@ -46,15 +50,19 @@ removed-preserved c =
     let some : 0 < length stack.frames.items = omega (arith, eqb-false (length stack.frames.items) 0 test) in
     record {
       sound = c.in_ok-item.ensures.sound;
-      same = sym (given-ok stack.web.now after.web.now stack.steps after.steps (list_left stack) (list_left after) (option_map item_of c.in_ok-item.field-0)
-    (IsLeft-levels stack.web.now.tokens stack.frames.items some) (ap (λ web. web.now) c.remove_head.ensures.web) c.in_ok-item.ensures.answers
-    ∙ ap (λ found. with_item (option_map item_of found) (given_by after.web.now after.steps (list_left after))) c.in_default.is)
+      same = sym (given-ok stack.web.now after.web.now stack.steps after.steps (list_left stack) (list_left after)
+          (option_map item_of c.in_ok-item.field-0)
+          (IsLeft-levels stack.web.now.tokens stack.frames.items some) (ap (λ web. web.now) c.remove_head.ensures.web)
+          c.in_ok-item.ensures.answers
+          ∙ ap (λ found. with_item (option_map item_of found) (given_by after.web.now after.steps (list_left after)))
+          c.in_default.is)
           ∙ c.removed.invariant.same;
     }
 
 -- no level is open
-pub returns-clause-end : goal.returns-clause-end
-returns-clause-end c =
+pub returns-clause-none : goal.returns-clause-none
+returns-clause-none c =
     let stack = c.removed.self-inside.stack in
     let test : (length stack.frames.items == 0) ≡ true = sym c.is_empty.ensures ∙ c.removed-test.false in
-    sym c.removed.invariant.same ∙ given-none stack.web.now stack.steps stack.frames.items (eqb-true (length stack.frames.items) 0 test)
+    sym c.removed.invariant.same ∙ given-none stack.web.now stack.steps stack.frames.items (eqb-true (length
+    stack.frames.items) 0 test)
