@@ -4,8 +4,6 @@ use Rattle.std.proofs.Common.{inl, inr, arith}
 use Rattle.wb_ports.specs.Counts.{CountsFailure, Rose}
 use Rattle.wb_base.specs.declared.faults.Fault.{Fault as Flaw}
 use Rattle.wb_ports.specs.declared.shelf.FailedCall.{FailedCall}
-use Rattle.web2c_cli.specs.declared.command_table.Command.{Command}
-use Rattle.web2c_cli.specs.declared.command_table.Command.TheVariants.{Tangle, Pooltype}
 use Rattle.web2c_cli.specs.declared.status.Status.{Status}
 use Rattle.web2c_cli.specs.declared.halt.Stop.{Stop}
 use Rattle.web2c_cli.specs.declared.halt.Stop.TheVariants.{Shelf, Console, OutOfMemory}
@@ -13,10 +11,11 @@ use Rattle.web2c_cli.specs.declared.halt.Halt.{Halt}
 use Rattle.web2c_cli.specs.declared.halt.Halt.TheVariants.{Fault, Stopped}
 use Rattle.web2c_cli.specs.Status.{number_of}
 use Rattle.web2c_cli.specs.CommandLine.{Order, Request}
-use Rattle.web2c_cli.specs.Work.{Work, does, prints, ends, World, by_shelf, by_console, by_memory, Ends, Stops}
-use Rattle.web2c_cli.specs.Program.{command_work, tangling, work_of}
-use Rattle.web2c_cli.specs.inner.Reaching.{Reaches, Goes, Concludes, cause_of, status_of, is_by_shelf, is_by_console}
-use Rattle.web2c_cli.proofs.ReachingLemmas.{ended}
+use Rattle.tangle_core.specs.Work.{Work, does, prints, ends, World, by_shelf, by_console, by_memory, Ends, Stops}
+use Rattle.web2c_cli.specs.Program.{work_of}
+use Rattle.tangle_core.specs.Job.{Reaches}
+use Rattle.web2c_cli.specs.inner.Reaching.{Goes, Concludes, cause_of, status_of, is_by_shelf, is_by_console}
+use Rattle.tangle_core.proofs.ReachingLemmas.{ended}
 
 -- a stop that is handed on
 pub concluded_by : (work : Work) (result : Result Status Stop) (stop : Stop) (last : Option FailedCall) (u v : World)
@@ -53,12 +52,6 @@ halt_kept {T = T} {U = U} refusal work before rest (Err other) halt last u v is 
         → Goes {T = U} refusal work rest (Err halt) last u v
     same_halt refusal work before rest (Fault fault) last u v p = p
     same_halt refusal work before rest (Stopped stop) last u v p = p
-
--- the work of `tangle`
-pub tangle_is : (command : Command) (order : Order) → command ≡ Tangle → command_work command order
-    ≡ tangling order order.names.first order.names.second (λ text. ends 0)
-tangle_is Tangle order is = refl
-tangle_is Pooltype order is = absurd (cc)
 
 -- what the status of a run says of its conclusion
 pub finishes : (request asked : Request) (outcome : Result Status Stop) (last : Option FailedCall) (u v : World)

@@ -1,5 +1,3 @@
-mod WritingLemmas
-mod WorkLemmas
 mod ReachingLemmas
 mod TanglingLemmas
 mod ListingLemmas
@@ -8,5 +6,3 @@ mod NumberLemmas
 mod PartsLemmas
 mod RequestLemmas
 mod ProgramLaws
-mod EarlySteps
-mod RawLines

@@ -10,10 +10,13 @@ use Rattle.web_pool.specs.Listing.{Listing, listing, Lists}
 use Rattle.web2c_cli.specs.declared.halt.Halt.{Halt}
 use Rattle.web2c_cli.specs.declared.halt.Halt.TheVariants.{Fault as at_fault, Stopped}
 use Rattle.web2c_cli.specs.CommandLine.{Order}
-use Rattle.web2c_cli.specs.Work.{Work, World}
-use Rattle.web2c_cli.specs.Program.{refused_by, printing_listing, world_of}
-use Rattle.web2c_cli.specs.inner.Reaching.{Reaches, Goes, PrintingListing, halt_by_listing}
-use Rattle.web2c_cli.proofs.ReachingLemmas.{rest_is, printing_done, printing_failed}
+use Rattle.tangle_core.specs.Work.{Work, World}
+use Rattle.tangle_core.specs.Job.{world_of}
+use Rattle.web2c_cli.specs.Program.{refused_by, printing_listing}
+use Rattle.tangle_core.specs.Job.{Reaches}
+use Rattle.web2c_cli.specs.inner.Reaching.{Goes, PrintingListing, halt_by_listing}
+use Rattle.tangle_core.proofs.ReachingLemmas.{rest_is}
+use Rattle.web2c_cli.proofs.ReachingLemmas.{printing_done, printing_failed}
 
 -- the rest of the work went on, or no further
 pub goes_then : {T : Type 0} (refusal : Flaw → Work) (work middle : Work) (rest : T → Work) (result : Result T Halt)

@@ -9,25 +9,25 @@ use Rattle.std.specs.Str.{bytes_eq}
 use Rattle.web2c_cli.specs.declared.command_table.OptionRow.{OptionRow}
 use Rattle.web2c_cli.specs.declared.command_table.Setting.{Setting}
 use Rattle.web2c_cli.specs.inner.Table.{option_by, options_by}
-use Rattle.web2c_cli.specs.CommandLine.{times_given, CommandForm, command_table, Part, parts_of}
-use Rattle.web2c_cli.specs.CommandLine.{setting_in, are_given_at_most_once, Names, Request, ordered, usage}
+use Rattle.web2c_cli.specs.CommandLine.{times_set, CommandForm, command_table, Part, parts_of}
+use Rattle.web2c_cli.specs.CommandLine.{setting_in, are_set_at_most_once, Names, Request, ordered, usage}
 use Rattle.web2c_cli.specs.CommandLine.{names_for, request_by, request_of}
 use Rattle.web2c_cli.proofs.PartsLemmas.{cond_true, cond_false, drop_at}
 
 -- whether no which is made twice, over the rows in code
-pub given_once_by : (rows : List OptionRow) (settings : List Setting)
-    → are_given_at_most_once (options_by rows) settings ≡ list_all
-    (λ row. nat_le (times_given row.which settings) 1) rows
-given_once_by rows settings = list_all-map (λ form. nat_le (times_given form.which settings) 1) option_by rows
+pub set_once_by : (rows : List OptionRow) (settings : List Setting)
+    → are_set_at_most_once (options_by rows) settings ≡ list_all
+    (λ row. nat_le (times_set row.value settings) 1) rows
+set_once_by rows settings = list_all-map (λ form. nat_le (times_set form.value settings) 1) option_by rows
 
 -- a which is made twice
 pub request_twice : (form : CommandForm) (parts : List Part)
-    → are_given_at_most_once form.options (filter_map setting_in parts) ≡ false → request_by form parts ≡ usage
+    → are_set_at_most_once form.options (filter_map setting_in parts) ≡ false → request_by form parts ≡ usage
 request_twice form parts twice = cond_false _ _ _ twice
 
 -- no which is, and there are names
 pub request_named : (form : CommandForm) (parts : List Part) (names : Names)
-    → are_given_at_most_once form.options (filter_map setting_in parts) ≡ true → names_for form parts ≡ Some names
+    → are_set_at_most_once form.options (filter_map setting_in parts) ≡ true → names_for form parts ≡ Some names
     → request_by form parts
     ≡ ordered (record { command = form.command; names = names; settings = filter_map setting_in parts })
 request_named form parts names once is =

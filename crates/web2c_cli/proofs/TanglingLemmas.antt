@@ -1,55 +1,52 @@
--- The parts of tangling: what is left to do once its text or its fault is known.
-use Rattle.std.proofs.Common.{◌≡◌, ◌∙◌, ℕ, List, [], ◌∷◌, ◌++◌, Option, Result, Ok, Err, IsErrAnd, sym, ap, subst}
-use Rattle.wb_base.specs.declared.faults.Fault.{Fault as Flaw}
-use Rattle.wb_base.specs.declared.faults.WorkErr.{WorkErr}
-use Rattle.wb_base.specs.declared.faults.WorkErr.TheVariants.{Fault, OutOfMemory}
-use Rattle.wb_base.specs.WorkResult.{IfFault}
+-- What tangling leaves to be done.
+use Rattle.std.proofs.Common.{◌≡◌, ℕ, Bool, true, false, Option, Result, Ok, Err, IsErrAnd, subst, refl, sym, ap}
 use Rattle.wb_ports.specs.declared.shelf.FailedCall.{FailedCall}
+use Rattle.tangle_core.specs.declared.job.Done.{Done}
+use Rattle.tangle_core.specs.declared.job.Job.{Job}
+use Rattle.tangle_core.specs.declared.job.TangleErr.{TangleErr}
+use Rattle.tangle_core.specs.declared.job.TangleErr.TheVariants.{Fault, Failed, OutOfMemory}
+use Rattle.tangle_core.specs.Outcome.{Output}
+use Rattle.tangle_core.specs.Work.{Work, World, ends, loads, by_memory, Stops}
+use Rattle.tangle_core.specs.Job.{Tangles, Reaches, Tells, tangling}
+use Rattle.tangle_core.proofs.WorkLemmas.{now_same}
+use Rattle.tangle_core.proofs.ReachingLemmas.{load_stopped, rest_is}
 use Rattle.web2c_cli.specs.declared.halt.Halt.{Halt}
+use Rattle.web2c_cli.specs.declared.halt.Stop.TheVariants.{OutOfMemory as no_memory}
+use Rattle.web2c_cli.specs.declared.status.Status.TheVariants.{Done as Finished}
+use Rattle.web2c_cli.specs.Status.{number_of}
 use Rattle.web2c_cli.specs.CommandLine.{Order}
-use Rattle.web2c_cli.specs.Work.{Work, World, does, leaves, prints, ends, by_memory, Stops}
-use Rattle.web2c_cli.specs.FileNames.{pascal_name}
-use Rattle.web2c_cli.specs.Program.{refused, fault_line, leaving_pascal}
-use Rattle.web2c_cli.specs.inner.Reaching.{Reaches, Goes, halt_by_work}
-use Rattle.web2c_cli.proofs.WorkLemmas.{now_same}
-use Rattle.web2c_cli.proofs.ReachingLemmas.{act_stopped, rest_is}
+use Rattle.web2c_cli.specs.declared.command_table.Command.{Command}
+use Rattle.web2c_cli.specs.declared.command_table.Command.TheVariants.{Tangle, Pooltype}
+use Rattle.web2c_cli.specs.Program.{command_work, tangle_work, job_of, going_on, telling_no_output}
+use Rattle.web2c_cli.specs.inner.Reaching.{Goes, Tangling, halt_by_tangling}
 
--- memory that was not found before it is known how the tangling ends
-pub pascal_wants_memory : (order : Order) (web : List ℕ) (r : Result (List ℕ) Flaw) (next : List ℕ → Work) (w : World)
-    → Stops (leaving_pascal order web r next) by_memory w w
-pascal_wants_memory order web (Ok text) next w =
-    act_stopped (leaves (pascal_name web) (text ++ 10 ∷ [])) (next (text ++ 10 ∷ [])) by_memory w w (now_same w)
-pascal_wants_memory order web (Err fault) next w =
-    act_stopped (prints (fault_line order fault)) (ends 1) by_memory w w (now_same w)
+-- a web that was not tangled
+pub not_tangled : (order : Order) (job : Job) (err : TangleErr) (result : Result (Unit {0}) Halt)
+    (last : Option FailedCall) (u v : World) → job ≡ job_of order → IsErrAnd result (λ halt. halt ≡ halt_by_tangling err)
+    → Tangles job (going_on order (λ output. ends (number_of Finished))) (Err err) last u v → Tangling order result last u v
+not_tangled order job err (Ok value) last u v is halt t = absurd halt
+not_tangled order job err (Err halt) last u v is same t =
+    subst (λ (h : Halt). Tangling order (Err h) last u v) (sym same)
+    (by_error err (subst (λ (j : Job). Tangles j (going_on order (λ output. ends (number_of Finished))) (Err err) last u v)
+    is t))
+  where
+    by_error : (err : TangleErr)
+        → Tangles (job_of order) (going_on order (λ output. ends (number_of Finished))) (Err err) last u v
+        → Tangling order (Err (halt_by_tangling err)) last u v
+    by_error (Fault fault) t = t
+    by_error Failed t = t
+    by_error OutOfMemory t = t
 
--- the text is not made: for a fault, or for want of memory
-refused_as : (order : Order) (work : Work) (web : List ℕ) (r : Result (List ℕ) Flaw) (next : List ℕ → Work)
-    (err : WorkErr) (last : Option FailedCall) (u v : World)
-    → IfFault {T = List ℕ} (Err err) (λ fault. r ≡ Err fault)
-    → Reaches work (leaving_pascal order web r next) u v
-    → Goes {T = List ℕ} (refused order) work next (Err (halt_by_work err)) last u v
-refused_as order work web r next (Fault fault) last u v is p =
-    rest_is _ _ _ _ _ (ap (λ (r : Result (List ℕ) Flaw). leaving_pascal order web r next) is) p
-refused_as order work web r next OutOfMemory last u v is p =
-    p.stops by_memory v (pascal_wants_memory order web r next v)
+-- a web that was tangled
+pub was_tangled : (order : Order) (job : Job) (made : Done) (last : Option FailedCall) (u v : World)
+    → job ≡ job_of order → Tangles job (going_on order (λ output. ends (number_of Finished))) (Ok made) last u v
+    → Reaches (tangle_work order) (telling_no_output made.no_output (ends (number_of Finished))) u v
+was_tangled order job made last u v is (output, (tells, reaches)) =
+    subst (λ (j : Job). Reaches (tangling j (going_on order (λ output. ends (number_of Finished))))
+    (telling_no_output made.no_output (ends (number_of Finished))) u v) is
+    (rest_is _ _ _ _ _ (ap (λ (b : Bool). telling_no_output b (ends (number_of Finished))) (sym tells.no_output)) reaches)
 
-pub text_refused : (order : Order) (work : Work) (web : List ℕ) (r : Result (List ℕ) Flaw) (next : List ℕ → Work)
-    (err : WorkErr) (result : Result (List ℕ) Halt) (last : Option FailedCall) (u v : World)
-    → IsErrAnd result (λ halt. halt ≡ halt_by_work err)
-    → IfFault {T = List ℕ} (Err err) (λ fault. r ≡ Err fault)
-    → Reaches work (leaving_pascal order web r next) u v → Goes (refused order) work next result last u v
-text_refused order work web r next err (Ok value) last u v same is p = absurd same
-text_refused order work web r next err (Err halt) last u v same is p =
-    subst (λ (h : Halt). Goes {T = List ℕ} (refused order) work next (Err h) last u v) (sym same)
-    (refused_as order work web r next err last u v is p)
-
--- the text is made, and is to be left
-pub pascal_is : (order : Order) (web name text whole bytes : List ℕ) (r : Result (List ℕ) Flaw) (next : List ℕ → Work)
-    → r ≡ Ok text → name ≡ pascal_name web → whole ≡ text ++ 10 ∷ [] → bytes ≡ whole
-    → leaving_pascal order web r next ≡ does (leaves name bytes) (next whole)
-pascal_is order web name text whole bytes r next is named ended shown =
-    ap (λ (r : Result (List ℕ) Flaw). leaving_pascal order web r next) is
-    ∙ ap (λ (n : List ℕ). does (leaves n (text ++ 10 ∷ [])) (next (text ++ 10 ∷ []))) (sym named)
-    ∙ ap (λ (b : List ℕ). does (leaves name b) (next (text ++ 10 ∷ []))) (sym ended)
-    ∙ ap (λ (b : List ℕ). does (leaves name whole) (next b)) (sym ended)
-    ∙ ap (λ (b : List ℕ). does (leaves name b) (next whole)) (sym shown)
+-- the work of `tangle`
+pub tangle_is : (command : Command) (order : Order) → command ≡ Tangle → command_work command order ≡ tangle_work order
+tangle_is Tangle order is = refl
+tangle_is Pooltype order is = absurd (cc)

@@ -7,20 +7,24 @@ use Rattle.std.specs.List.{list_all, filter_map}
 use Rattle.std.specs.Option.{option_map_or}
 use Rattle.std.specs.Char.{is_ascii_digit}
 use Rattle.std.specs.Str.{bytes_eq}
+use Rattle.wb_base.specs.declared.options.Case.TheVariants.{Upper, Lower, Mixed}
+use Rattle.wb_base.specs.declared.options.Options.{Options}
 use Rattle.web2c_cli.specs.declared.command_table.Command.{Command}
 use Rattle.web2c_cli.specs.declared.command_table.Command.TheVariants.{Tangle, Pooltype}
 use Rattle.web2c_cli.specs.declared.command_table.NameKind.{NameKind}
 use Rattle.web2c_cli.specs.declared.command_table.NameKind.TheVariants.{Web, File}
-use Rattle.web2c_cli.specs.declared.command_table.Value.{Value}
-use Rattle.web2c_cli.specs.declared.command_table.Value.TheVariants.{Fixed, Number}
+use Rattle.web2c_cli.specs.declared.command_table.Comparison.TheVariants.{Loose, Strict}
 use Rattle.web2c_cli.specs.declared.command_table.Setting.{Setting}
+use Rattle.web2c_cli.specs.declared.command_table.Setting.TheVariants.{Length, Underline, Letters, Words}
+use Rattle.web2c_cli.specs.declared.command_table.TheConstants.{LEAST_LENGTH, GREATEST_LENGTH}
+use Rattle.web2c_cli.specs.declared.command_table.Value.{Value}
+use Rattle.web2c_cli.specs.declared.command_table.Value.TheVariants as value
 use Rattle.web2c_cli.specs.FileNames.{is_name_of}
 
--- an option of a command: how it is spelled, which setting it gives, and its value, which is fixed or is a number from
--- the least to the most; options that give the same setting exclude one another
+-- an option of a command: how it is spelled, and its value, which is fixed or is written as a number; options that set
+-- the same exclude one another
 pub record OptionForm : Type 0 where
   pub spelling : List ℕ
-  pub which : ℕ
   pub value : Value
 
 -- a command: its word, how many names it needs, what each name that it may have names, and its options
@@ -31,10 +35,22 @@ pub record CommandForm : Type 0 where
   pub names : List NameKind
   pub options : List OptionForm
 
+-- the options of tangling, which are those of Web2C's `tangle`
+abbrev pub tangle_options : List OptionForm
+tangle_options =
+    record { spelling = codes "--length"; value = value.Length }
+    ∷ record { spelling = codes "--underline"; value = value.Fixed Underline }
+    ∷ record { spelling = codes "--uppercase"; value = value.Fixed (Letters Upper) }
+    ∷ record { spelling = codes "--lowercase"; value = value.Fixed (Letters Lower) }
+    ∷ record { spelling = codes "--mixedcase"; value = value.Fixed (Letters Mixed) }
+    ∷ record { spelling = codes "--loose"; value = value.Fixed (Words Loose) }
+    ∷ record { spelling = codes "--strict"; value = value.Fixed (Words Strict) }
+    ∷ []
+
 -- the commands that are built: `tangle WEB [CH]` and `pooltype POOL`
 abbrev pub command_table : List CommandForm
 command_table =
-    record { word = codes "tangle"; command = Tangle; needed = 1; names = Web ∷ File ∷ []; options = [] }
+    record { word = codes "tangle"; command = Tangle; needed = 1; names = Web ∷ File ∷ []; options = tangle_options }
     ∷ record { word = codes "pooltype"; command = Pooltype; needed = 1; names = File ∷ []; options = [] }
     ∷ []
 
@@ -75,8 +91,8 @@ option_of options word = find (λ option. bytes_eq option.spelling (spelling_in 
 
 -- whether an option with such a value takes it from the command line
 abbrev pub takes_value : Value → Bool
-takes_value (Fixed value) = false
-takes_value (Number least most) = true
+takes_value (value.Fixed given) = false
+takes_value value.Length = true
 
 -- the number that is written so, in decimal digits
 abbrev pub number_written : List ℕ → ℕ
@@ -89,18 +105,17 @@ is_number_within least most text =
     && nat_le least (number_written text) && nat_le (number_written text) most
 
 -- what an option says with this value, or without one
-abbrev pub setting_by : ℕ → Value → Option (List ℕ) → Part
-setting_by which (Fixed value) None = setting (record { which = which; value = value })
-setting_by which (Fixed value) (Some text) = unknown
-setting_by which (Number least most) None = unknown
-setting_by which (Number least most) (Some text) =
-    if is_number_within least most text then setting (record { which = which; value = number_written text })
-    else unknown
+abbrev pub setting_by : Value → Option (List ℕ) → Part
+setting_by (value.Fixed given) None = setting given
+setting_by (value.Fixed given) (Some text) = unknown
+setting_by value.Length None = unknown
+setting_by value.Length (Some text) =
+    if is_number_within LEAST_LENGTH GREATEST_LENGTH text then setting (Length (number_written text)) else unknown
 
 -- what the word of an option says with this value, or without one
 abbrev pub option_part : List OptionForm → List ℕ → Option (List ℕ) → Part
 option_part options word value =
-    option_map_or (λ option. setting_by option.which option.value value) (option_of options word) unknown
+    option_map_or (λ option. setting_by option.value value) (option_of options word) unknown
 
 -- whether the word is an option whose value is the next word: one that takes a value, and has no `=`
 abbrev pub takes_next : List OptionForm → List ℕ → Bool
@@ -145,13 +160,27 @@ are_names_of kinds [] = true
 are_names_of [] (word ∷ words) = false
 are_names_of (kind ∷ kinds) (word ∷ words) = is_name_of kind word && are_names_of kinds words
 
--- how often this setting is given
-abbrev pub times_given : ℕ → List Setting → ℕ
-times_given which settings = count_by (λ setting. setting.which == which) settings
+-- whether two settings set the same
+abbrev pub set_the_same : Setting → Setting → Bool
+set_the_same (Length most) (Length other) = true
+set_the_same Underline Underline = true
+set_the_same (Letters folded) (Letters other) = true
+set_the_same (Words compared) (Words other) = true
+set_the_same first second = false
 
--- whether no setting is given twice
-abbrev pub are_given_at_most_once : List OptionForm → List Setting → Bool
-are_given_at_most_once options settings = list_all (λ option. nat_le (times_given option.which settings) 1) options
+-- whether an option with this value sets what the setting does
+abbrev pub sets : Value → Setting → Bool
+sets (value.Fixed given) wanted = set_the_same given wanted
+sets value.Length (Length most) = true
+sets value.Length other = false
+
+-- how often that is set which an option with this value sets
+abbrev pub times_set : Value → List Setting → ℕ
+times_set value settings = count_by (sets value) settings
+
+-- whether nothing is set twice
+abbrev pub are_set_at_most_once : List OptionForm → List Setting → Bool
+are_set_at_most_once options settings = list_all (λ option. nat_le (times_set option.value settings) 1) options
 
 -- the names of a command line: the first, and the second if there is one
 pub record Names : Type 0 where
@@ -162,6 +191,22 @@ pub record Names : Type 0 where
 abbrev pub names_of : List (List ℕ) → Option Names
 names_of [] = None
 names_of (first ∷ others) = Some (record { first = first; second = slice_get others 0 })
+
+-- what tangling chooses where nothing is set
+abbrev pub default_options : Options
+default_options = record { length = 32; underline = false; case = Mixed; strict = false }
+
+-- the options after a setting
+abbrev pub with_setting : Options → Setting → Options
+with_setting options (Length most) = record options { length = most }
+with_setting options Underline = record options { underline = true }
+with_setting options (Letters folded) = record options { case = folded }
+with_setting options (Words Loose) = record options { strict = false }
+with_setting options (Words Strict) = record options { strict = true }
+
+-- the options that the settings choose
+abbrev pub options_by_settings : List Setting → Options
+options_by_settings settings = fold with_setting default_options settings
 
 -- what a command is asked to do: with which names, and with which settings in the order in which they are given
 pub record Order : Type 0 where
@@ -185,7 +230,7 @@ names_for form parts =
 abbrev pub request_by : CommandForm → List Part → Request
 request_by form parts =
     let settings = filter_map setting_in parts in
-    if are_given_at_most_once form.options settings
+    if are_set_at_most_once form.options settings
     then option_map_or (λ names. ordered (record { command = form.command; names = names; settings = settings }))
     (names_for form parts) usage
     else usage

@@ -1,23 +1,24 @@
 -- The program: what is done for each request, in its order. The order of work, the statuses, the console texts and the
 -- names of the files are this project's own.
-use Rattle.std.specs.Prelude.{ℕ, List, [], ◌∷◌, ◌++◌, codes, Option, Some, None, unwrap_or, Result, Ok, Err}
+use Rattle.std.specs.Prelude.{ℕ, Bool, true, false, List, [], ◌∷◌, ◌++◌, codes, Option, Some, None, unwrap_or}
 use Rattle.std.specs.Prelude.{option_map}
 use Rattle.std.specs.Option.{option_and_then}
 use Rattle.wb_base.specs.declared.places.FileTag.{FileTag}
 use Rattle.wb_base.specs.declared.places.FileTag.TheVariants.{Web, Change, Pool, Pas, Header, Code}
 use Rattle.wb_base.specs.declared.faults.Fault.{Fault}
 use Rattle.wb_base.specs.ConsoleLine.{console_line}
-use Rattle.wb_ports.specs.Files.{Files}
 use Rattle.wb_ports.specs.PortState.{PortState}
 use Rattle.web2c_cli.specs.declared.command_table.Command.{Command}
 use Rattle.web2c_cli.specs.declared.command_table.Command.TheVariants.{Tangle, Pooltype}
 use Rattle.web2c_cli.specs.declared.status.Status.TheVariants.{Done, Refused, Usage}
 use Rattle.web2c_cli.specs.Status.{number_of}
-use Rattle.web2c_cli.specs.FileNames.{output_name, pascal_name, code_name}
-use Rattle.web2c_cli.specs.CommandLine.{Names, Order, Request, ordered, usage, usage_line}
-use Rattle.web2c_cli.specs.Work.{Work, loads, does, leaves, prints, ends, World}
+use Rattle.web2c_cli.specs.FileNames.{base_of, output_name, pascal_name, code_name}
+use Rattle.web2c_cli.specs.CommandLine.{Names, Order, Request, ordered, usage, usage_line, options_by_settings}
 use Rattle.web_pool.specs.Listing.{Listing, listing}
-use Rattle.web2c_cli.specs.Tangled.{tangled_text}
+use Rattle.tangle_core.specs.declared.job.Job.{Job}
+use Rattle.tangle_core.specs.Outcome.{Output}
+use Rattle.tangle_core.specs.Work.{Work, loads, does, prints, ends}
+use Rattle.tangle_core.specs.Job.{Going_on, tangling}
 
 -- the name that is printed with a fault in a file: the word that was given for it, or the name of the output
 abbrev pub file_name : Command → Names → FileTag → List ℕ
@@ -37,21 +38,35 @@ fault_line order fault = console_line fault (file_name order.command order.names
 abbrev pub refused : Order → Fault → Work
 refused order fault = does (prints (fault_line order fault)) (ends (number_of Refused))
 
--- the change file is loaded, if there is one; else it is empty
-abbrev pub loads_change : Option (List ℕ) → (List ℕ → Work) → Work
-loads_change None next = next []
-loads_change (Some name) next = loads name next
+-- what the command line asks to tangle
+abbrev pub job_of : Order → Job
+job_of order = record {
+  web = order.names.first;
+  change = order.names.second;
+  base = base_of order.names.first;
+  options = options_by_settings order.settings;
+}
 
--- the Pascal file is left with this text and a byte 10, and the work goes on with the text; or the fault is reported
-abbrev pub leaving_pascal : Order → List ℕ → Result (List ℕ) Fault → (List ℕ → Work) → Work
-leaving_pascal order web (Ok text) next = does (leaves (pascal_name web) (text ++ 10 ∷ [])) (next (text ++ 10 ∷ []))
-leaving_pascal order web (Err fault) next = refused order fault
+-- the line that tells that a web has no Pascal text without a name, with its byte 10
+abbrev pub no_output_line : List ℕ
+no_output_line = codes "! No output was specified." ++ 10 ∷ []
 
--- a web and its change file are loaded, tangled, and left as Pascal; the work goes on with the Pascal text
-abbrev pub tangling : Order → List ℕ → Option (List ℕ) → (List ℕ → Work) → Work
-tangling order web change next =
-    loads web (λ web_bytes. loads_change change (λ change_bytes.
-    leaving_pascal order web (tangled_text web_bytes change_bytes) next))
+-- that is told, where it is so
+abbrev pub telling_no_output : Bool → Work → Work
+telling_no_output true rest = does (prints no_output_line) rest
+telling_no_output false rest = rest
+
+-- how tangling goes on: a fault is reported; else the work goes on with what was tangled
+abbrev pub going_on : Order → (Output → Work) → Going_on
+going_on order next = record {
+  report = fault_line order;
+  at_fault = λ fault. ends (number_of Refused);
+  at_end = λ output. telling_no_output output.no_output (next output);
+}
+
+-- the work of `tangle`
+abbrev pub tangle_work : Order → Work
+tangle_work order = tangling (job_of order) (going_on order (λ output. ends (number_of Done)))
 
 -- the fault is reported, or there is none and the work is done
 abbrev pub refused_by : Order → Option Fault → Work
@@ -64,7 +79,7 @@ printing_listing order wanted = does (prints wanted.text) (refused_by order want
 
 -- what each command does
 abbrev pub command_work : Command → Order → Work
-command_work Tangle order = tangling order order.names.first order.names.second (λ text. ends (number_of Done))
+command_work Tangle order = tangle_work order
 command_work Pooltype order = loads order.names.first (λ bytes. printing_listing order (listing bytes))
 
 -- what the program does for a request
@@ -78,7 +93,3 @@ port_bytes told [] = Some []
 port_bytes told (port ∷ ports) =
     option_and_then (λ (state : PortState). option_map (λ others. state.bytes ∷ others) (port_bytes told ports))
     (told port)
-
--- the world of a shelf, a console and ports
-abbrev pub world_of : Option Files → Option (List ℕ) → Option (List (List ℕ)) → World
-world_of files console ports = record { files = files; console = console; ports = ports }

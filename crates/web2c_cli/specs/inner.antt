@@ -1,10 +1,7 @@
 -- Definitions that no public contract cites: what private functions keep to, and rows that are worked out.
 pub mod Answer
 pub mod Reaching
-pub mod Writing
 pub mod Table
 pub mod Reading
-pub mod EarlyReader
 pub mod CommandRows
 pub mod ProgramRows
-pub mod EarlyRows

@@ -1,10 +1,8 @@
 //! Calls of the shelf and the console as parts of the work.
-ghost use Rattle.std.specs.Prelude.{◌≡◌, ◌⊎◌, false, IfErr, IsErrOf};
-ghost use Rattle.std.specs.Option.{option_copied};
+ghost use Rattle.std.specs.Prelude.{◌≡◌, false, IfErr};
 ghost use Rattle.wb_ports.specs.Counts.{CountsFailure};
-ghost use Rattle.web2c_cli.specs.inner.Reaching.{Loading, LoadingChange, Leaving, Printing, is_by_shelf, is_by_console};
+ghost use Rattle.web2c_cli.specs.inner.Reaching.{Loading, Printing, is_by_shelf, is_by_console};
 
-use crate::files::write_file;
 use crate::halt::Stop;
 use std::alloc::Global;
 use wb_base::Text;
@@ -19,38 +17,6 @@ pub fn load<S: Shelf>(alloc: Global, name: &[u8], shelf: &mut S) -> Result<Text,
 {
     let text = shelf.load(alloc, name)?;
     Ok(text)
-}
-
-/// Loads a change file, if there is one; else it is empty.
-pub fn load_change<S: Shelf>(
-    alloc: Global,
-    change: Option<&[u8]>,
-    shelf: &mut S,
-) -> Result<Text, Stop>
-    ensures work { LoadingChange (option_copied change.entry) result (S.last_failure shelf.new)
-        (S.files shelf.old) (S.files shelf.new) }
-    ensures is_open { S.is_open shelf.new ≡ S.is_open shelf.old }
-    ensures cause { CountsFailure (is_by_shelf result) (S.faults shelf.old) (S.faults shelf.new) }
-    ensures quiet { is_by_console result ≡ false }
-{
-    match change {
-        Some(name) => load(alloc, name, shelf),
-        None => Ok(Text::new(alloc)),
-    }
-}
-
-/// Leaves a file.
-pub fn leave<S: Shelf>(shelf: &mut S, name: &[u8], bytes: &[u8]) -> Result<(), Stop>
-    requires { S.is_open shelf.old ≡ false }
-
-    ensures work { Leaving name.now bytes.now result (S.last_failure shelf.new)
-        (S.files shelf.old) (S.files shelf.new) }
-    ensures closed { IsErrOf result Stop.Shelf ⊎ (S.is_open shelf.new ≡ false) }
-    ensures cause { CountsFailure (is_by_shelf result) (S.faults shelf.old) (S.faults shelf.new) }
-    ensures quiet { is_by_console result ≡ false }
-{
-    write_file(shelf, name, bytes)?;
-    Ok(())
 }
 
 /// Prints a text; of an empty one the console hears nothing.

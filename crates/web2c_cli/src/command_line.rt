@@ -3,15 +3,16 @@ ghost use Rattle.std.specs.Prelude.{◌≡◌, find, map, drop, nat_le};
 ghost use Rattle.std.specs.List.{list_all};
 ghost use Rattle.std.specs.Option.{option_map};
 ghost use Rattle.std.specs.Str.{bytes_eq};
-ghost use Rattle.web2c_cli.specs.CommandLine.{command_table, times_given, parts_of, names_for, request_by, request_of};
+ghost use Rattle.web2c_cli.specs.CommandLine.{command_table, set_the_same, sets, times_set, with_setting, options_by_settings};
+ghost use Rattle.web2c_cli.specs.CommandLine.{parts_of, names_for, request_by, request_of};
 ghost use Rattle.web2c_cli.specs.inner.Table.{options_by, command_by};
 ghost use Rattle.web2c_cli.specs.inner.Reading.{names_by, request_as, with_name};
 
-use crate::command_table::{COMMANDS, Command, CommandRow, OptionRow};
+use crate::command_table::{COMMANDS, Command, CommandRow, Comparison, OptionRow, Setting, Value};
 use crate::file_names::is_name_of;
 use crate::parts::{Cursor, Part, next_part};
 use std::marker::Model;
-use wb_base::Words;
+use wb_base::{Case, Options, Words};
 
 /// The names of a command line.
 #[derive(Clone, Copy)]
@@ -103,7 +104,7 @@ fn read_order<'w>(words: &'w Words, row: &CommandRow) -> Request<'w>
         words,
         options: row.options,
     };
-    if !are_given_at_most_once(&settings, row.options) {
+    if !are_set_at_most_once(&settings, row.options) {
         return Request::Usage;
     }
     match read_names(words, row) {
@@ -116,33 +117,95 @@ fn read_order<'w>(words: &'w Words, row: &CommandRow) -> Request<'w>
     }
 }
 
-// Whether no setting is given twice.
-fn are_given_at_most_once(settings: &Settings<'_>, options: &[OptionRow]) -> bool
-    ensures { result ≡ list_all (λ row. nat_le (times_given row.which settings.now) 1) options.now }
+// Whether nothing is set twice.
+fn are_set_at_most_once(settings: &Settings<'_>, options: &[OptionRow]) -> bool
+    ensures { result ≡ list_all (λ row. nat_le (times_set row.value settings.now) 1) options.now }
 {
     options
         .iter()
-        .all(|row| settings.is_given_at_most_once(row.which))
+        .all(|row| settings.is_set_at_most_once(row.value))
 }
 
 impl Settings<'_> {
-    // Whether this setting is not given twice.
-    fn is_given_at_most_once(&self, which: u8) -> bool
-        ensures { result ≡ nat_le (times_given which self.now) 1 }
+    // Whether that is not set twice which an option with this value sets.
+    fn is_set_at_most_once(&self, value: Value) -> bool
+        ensures { result ≡ nat_le (times_set value self.now) 1 }
     {
-        let mut is_given = false;
+        let mut is_set = false;
         let mut cursor = Cursor::FIRST;
         while let Some(part) = next_part(self.words, self.options, &mut cursor) {
             if let Part::Given(setting) = part
-                && setting.which == which
+                && sets(value, setting)
             {
-                if is_given {
+                if is_set {
                     return false;
                 }
-                is_given = true;
+                is_set = true;
             }
         }
         true
+    }
+
+    /// The options that the settings choose.
+    pub fn options(&self) -> Options
+        ensures { result ≡ options_by_settings self.now }
+    {
+        let mut options = DEFAULT_OPTIONS;
+        let mut cursor = Cursor::FIRST;
+        while let Some(part) = next_part(self.words, self.options, &mut cursor) {
+            if let Part::Given(setting) = part {
+                options = with_setting(options, setting);
+            }
+        }
+        options
+    }
+}
+
+// What tangling chooses where nothing is set.
+const DEFAULT_OPTIONS: Options = Options {
+    length: 32,
+    underline: false,
+    case: Case::Mixed,
+    strict: false,
+};
+
+// The options after a setting.
+fn with_setting(options: Options, setting: Setting) -> Options
+    ensures { result ≡ with_setting options setting }
+{
+    match setting {
+        Setting::Length(length) => Options { length, ..options },
+        Setting::Underline => Options {
+            underline: true,
+            ..options
+        },
+        Setting::Letters(case) => Options { case, ..options },
+        Setting::Words(comparison) => Options {
+            strict: comparison == Comparison::Strict,
+            ..options
+        },
+    }
+}
+
+// Whether an option with this value sets what the setting does.
+fn sets(value: Value, setting: Setting) -> bool
+    ensures { result ≡ sets value setting }
+{
+    match value {
+        Value::Fixed(given) => set_the_same(given, setting),
+        Value::Length => matches!(setting, Setting::Length(_)),
+    }
+}
+
+// Whether two settings set the same.
+fn set_the_same(setting: Setting, other: Setting) -> bool
+    ensures { result ≡ set_the_same setting other }
+{
+    match setting {
+        Setting::Length(_) => matches!(other, Setting::Length(_)),
+        Setting::Underline => matches!(other, Setting::Underline),
+        Setting::Letters(_) => matches!(other, Setting::Letters(_)),
+        Setting::Words(_) => matches!(other, Setting::Words(_)),
     }
 }
 

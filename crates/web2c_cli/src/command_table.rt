@@ -1,5 +1,7 @@
 //! The commands that are built, each with its names and its options.
 
+use wb_base::Case;
+
 /// A command that is built.
 #[derive(Clone, Copy)]
 pub enum Command {
@@ -18,22 +20,41 @@ pub enum NameKind {
     File,
 }
 
+/// How words are compared.
+#[derive(Clone, Copy, Debug, PartialEq, Eq)]
+pub enum Comparison {
+    /// As they are printed.
+    Loose,
+    /// In upper case and without underlines.
+    Strict,
+}
+
+/// What an option sets.
+#[derive(Clone, Copy, Debug, PartialEq, Eq)]
+pub enum Setting {
+    /// How many bytes of a word tell it from others.
+    Length(u8),
+    /// That underlines stay in the Pascal text.
+    Underline,
+    /// How letters are folded.
+    Letters(Case),
+    /// How words are compared.
+    Words(Comparison),
+}
+
+/// The least length of words that may be set.
+pub const LEAST_LENGTH: u64 = 1;
+
+/// The greatest length of words that may be set.
+pub const GREATEST_LENGTH: u64 = 50;
+
 /// The value of an option.
 #[derive(Clone, Copy)]
 pub enum Value {
-    /// None is written, and this one is meant.
-    Fixed(u64),
-    /// A number is written, from the first to the second.
-    Number(u64, u64),
-}
-
-/// A setting that was given: which, by a number of the command's own, and its value.
-#[derive(Clone, Copy)]
-pub struct Setting {
-    /// Which setting.
-    pub which: u8,
-    /// The value.
-    pub value: u64,
+    /// None is written, and this is set.
+    Fixed(Setting),
+    /// A length of words is written, from the least to the greatest.
+    Length,
 }
 
 /// An option of a command.
@@ -41,9 +62,7 @@ pub struct Setting {
 pub struct OptionRow {
     /// How it is spelled, with its dashes.
     pub spelling: &'static [u8],
-    /// Which setting it gives. Options that give the same setting exclude one another.
-    pub which: u8,
-    /// Its value.
+    /// Its value. Options that set the same exclude one another.
     pub value: Value,
 }
 
@@ -62,6 +81,38 @@ pub struct CommandRow {
     pub options: &'static [OptionRow],
 }
 
+/// The options of tangling.
+const TANGLE_OPTIONS: [OptionRow; 7] = [
+    OptionRow {
+        spelling: b"--length",
+        value: Value::Length,
+    },
+    OptionRow {
+        spelling: b"--underline",
+        value: Value::Fixed(Setting::Underline),
+    },
+    OptionRow {
+        spelling: b"--uppercase",
+        value: Value::Fixed(Setting::Letters(Case::Upper)),
+    },
+    OptionRow {
+        spelling: b"--lowercase",
+        value: Value::Fixed(Setting::Letters(Case::Lower)),
+    },
+    OptionRow {
+        spelling: b"--mixedcase",
+        value: Value::Fixed(Setting::Letters(Case::Mixed)),
+    },
+    OptionRow {
+        spelling: b"--loose",
+        value: Value::Fixed(Setting::Words(Comparison::Loose)),
+    },
+    OptionRow {
+        spelling: b"--strict",
+        value: Value::Fixed(Setting::Words(Comparison::Strict)),
+    },
+];
+
 /// The commands that are built.
 pub const COMMANDS: [CommandRow; 2] = [
     CommandRow {
@@ -69,7 +120,7 @@ pub const COMMANDS: [CommandRow; 2] = [
         command: Command::Tangle,
         needed: 1,
         names: &[NameKind::Web, NameKind::File],
-        options: &[],
+        options: &TANGLE_OPTIONS,
     },
     CommandRow {
         word: b"pooltype",

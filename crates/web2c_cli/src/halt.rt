@@ -1,7 +1,8 @@
 //! Why work went no further.
 ghost use Rattle.std.specs.Prelude.{◌≡◌};
 
-use wb_base::{Fault, OutOfMemory, WorkErr};
+use tangle_core::TangleErr;
+use wb_base::{Fault, OutOfMemory};
 use wb_ports::PortErr;
 use web_pool::PoolTypeErr;
 
@@ -70,15 +71,16 @@ impl From<Stop> for Halt {
     }
 }
 
-impl From<WorkErr> for Halt {
-    ghost use Rattle.web2c_cli.specs.inner.Reaching.{halt_by_work};
+impl From<TangleErr> for Halt {
+    ghost use Rattle.web2c_cli.specs.inner.Reaching.{halt_by_tangling};
 
-    ghost from_gives = { λ err halt. halt ≡ halt_by_work err };
+    ghost from_gives = { λ err halt. halt ≡ halt_by_tangling err };
 
-    fn from(err: WorkErr) -> Self {
+    fn from(err: TangleErr) -> Self {
         match err {
-            WorkErr::Fault(fault) => Halt::Fault(fault),
-            WorkErr::OutOfMemory => Halt::Stopped(Stop::OutOfMemory),
+            TangleErr::Fault(fault) => Halt::Fault(fault),
+            TangleErr::Failed => Halt::Stopped(Stop::Shelf),
+            TangleErr::OutOfMemory => Halt::Stopped(Stop::OutOfMemory),
         }
     }
 }

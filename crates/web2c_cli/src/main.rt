@@ -5,16 +5,14 @@ mod arguments;
 mod calls;
 mod command_line;
 mod command_table;
-mod early_form;
 mod file_names;
-mod files;
 mod halt;
 mod parts;
 mod pool_listing;
 mod run;
 mod status;
-mod tangled;
 mod tangling;
+mod texts;
 
 use arguments::read_words;
 use run::run;

@@ -9,7 +9,7 @@ ghost use Rattle.web2c_cli.specs.CommandLine.{number_written, is_number_within, 
 ghost use Rattle.web2c_cli.specs.inner.Table.{option_by, options_by};
 ghost use Rattle.web2c_cli.specs.inner.Reading.{part_by, parts_from};
 
-use crate::command_table::{OptionRow, Setting, Value};
+use crate::command_table::{GREATEST_LENGTH, LEAST_LENGTH, OptionRow, Setting, Value};
 use wb_base::Words;
 
 /// What a word says, or an option and the word after it.
@@ -109,7 +109,7 @@ fn takes_next(options: &[OptionRow], word: &[u8]) -> bool
         return false;
     }
     match option_of(options, word) {
-        Some(row) => matches!(row.value, Value::Number(..)),
+        Some(row) => matches!(row.value, Value::Length),
         None => false,
     }
 }
@@ -130,22 +130,22 @@ fn option_part<'w>(options: &[OptionRow], word: &[u8], value: Option<&[u8]>) -> 
     ensures { part_by result ≡ option_part (options_by options.now) word.now (option_copied value.entry) }
 {
     match option_of(options, word) {
-        Some(row) => setting_by(row.which, row.value, value),
+        Some(row) => setting_by(row.value, value),
         None => Part::Unknown,
     }
 }
 
 // What an option says with this value, or without one.
-fn setting_by<'w>(which: u8, value: Value, written: Option<&[u8]>) -> Part<'w>
-    ensures { part_by result ≡ setting_by which value (option_copied written.entry) }
+fn setting_by<'w>(value: Value, written: Option<&[u8]>) -> Part<'w>
+    ensures { part_by result ≡ setting_by value (option_copied written.entry) }
 {
     match (value, written) {
-        (Value::Fixed(value), None) => Part::Given(Setting { which, value }),
-        (Value::Number(least, most), Some(text)) => match number_within(least, most, text) {
-            Some(value) => Part::Given(Setting { which, value }),
+        (Value::Fixed(setting), None) => Part::Given(setting),
+        (Value::Length, Some(text)) => match number_within(LEAST_LENGTH, GREATEST_LENGTH, text) {
+            Some(length) => Part::Given(Setting::Length(length as u8)),
             None => Part::Unknown,
         },
-        (Value::Fixed(_), Some(_)) | (Value::Number(..), None) => Part::Unknown,
+        (Value::Fixed(_), Some(_)) | (Value::Length, None) => Part::Unknown,
     }
 }
 

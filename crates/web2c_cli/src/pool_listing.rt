@@ -1,7 +1,7 @@
 //! From a pool on the shelf to its listing on the console.
 ghost use Rattle.std.specs.Prelude.{◌≡◌, ℕ, List, Option, false};
 ghost use Rattle.wb_ports.specs.Counts.{CountsFailure};
-ghost use Rattle.web2c_cli.specs.Program.{world_of};
+ghost use Rattle.tangle_core.specs.Job.{world_of};
 ghost use Rattle.web2c_cli.specs.inner.Reaching.{ListingPool, PrintingListing};
 ghost use Rattle.web2c_cli.specs.inner.Reaching.{is_halted_by_shelf, is_halted_by_console};
 

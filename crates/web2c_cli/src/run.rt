@@ -3,8 +3,9 @@ ghost use Rattle.std.specs.Prelude.{◌≡◌, ◌≢◌, ◌⊎◌, ◌≤◌, 
 ghost use Rattle.wb_ports.specs.Counts.{CountsFailure, Rose};
 ghost use Rattle.web2c_cli.specs.Status.{number_of};
 ghost use Rattle.web2c_cli.specs.CommandLine.{usage, request_of};
-ghost use Rattle.web2c_cli.specs.Work.{Ends, Stops, by_shelf, by_console, by_memory, ends};
-ghost use Rattle.web2c_cli.specs.Program.{work_of, refused, command_work, port_bytes, world_of, fault_line, file_name};
+ghost use Rattle.tangle_core.specs.Work.{Ends, Stops, by_shelf, by_console, by_memory, ends};
+ghost use Rattle.tangle_core.specs.Job.{world_of};
+ghost use Rattle.web2c_cli.specs.Program.{work_of, refused, command_work, port_bytes, fault_line, file_name};
 ghost use Rattle.web2c_cli.specs.declared.halt.Halt.TheVariants.{Stopped};
 ghost use Rattle.web2c_cli.specs.inner.Reading.{names_by, order_by, request_as};
 ghost use Rattle.web2c_cli.specs.inner.Reaching.{Goes, Concludes, Reporting, status_of};
@@ -17,7 +18,8 @@ use crate::file_names::{code_name, output_name};
 use crate::halt::{Halt, Stop};
 use crate::pool_listing::list_pool;
 use crate::status::Status;
-use crate::tangling::tangle;
+use crate::tangling::tangle_web;
+use crate::texts::copy_of;
 use std::alloc::Global;
 use wb_base::{Fault, FileTag, OutOfMemory, Text, Words};
 use wb_ports::{Port, Shelf, Sink};
@@ -152,10 +154,7 @@ fn work<S: Shelf, K: Sink>(
     ensures frame { K.frame con.new ≡ K.frame con.old }
 {
     match order.command {
-        Command::Tangle => {
-            tangle(alloc, order.names.first, order.names.second, shelf)?;
-            Ok(())
-        }
+        Command::Tangle => tangle_web(alloc, order, shelf, con),
         Command::Pooltype => list_pool(alloc, order.names.first, shelf, con),
     }
 }
@@ -208,13 +207,4 @@ fn file_name(
         (Command::Tangle, FileTag::Code(number)) => code_name(alloc, names.first, number),
         (Command::Pooltype, _) => copy_of(alloc, names.first),
     }
-}
-
-// A text of these bytes.
-fn copy_of(alloc: Global, bytes: &[u8]) -> Result<Text, OutOfMemory>
-    ensures { IfOk result (λ text. text ≡ bytes.now) }
-{
-    let mut text = Text::new(alloc);
-    text.push_all(bytes)?;
-    Ok(text)
 }

@@ -8,12 +8,14 @@ use wb_ports::{MemShelf, MemSink};
 // The room of a written file and of the console.
 const ROOM: usize = 4096;
 
-// What `t.p` holds before each run.
+// What `t.p` and `t.pool` hold before each run.
 const OLD: &[u8] = b"old";
 
 const USAGE: &[u8] = b"usage: web2c tangle|pooltype|convert|chain|prun|crun|gen [options] names\n";
 
 const DONE: &[u8] = b"{1:}aa bb{:1}\n";
+
+const NO_OUTPUT: &[u8] = b"! No output was specified.\n";
 
 // What is given to a run: the words, with `|` between two; what `t.web` and `a.pool` hold, and what `t.ch` does; and
 // the numbers of the calls of the shelf and of the console that fail, or 0.
@@ -47,71 +49,79 @@ struct Left {
 }
 
 impl Left {
-    // What `t.p` holds.
-    fn pascal(&self) -> &[u8] {
-        self.shelf.file(b"t.p").unwrap_or(b"")
+    // What a file holds.
+    fn file(&self, name: &[u8]) -> &[u8] {
+        self.shelf.file(name).unwrap_or(b"")
     }
 }
 
-// Runs the words over `t.web`, `a.pool`, `t.ch` and an old `t.p`.
+// Runs the words over `t.web`, `a.pool`, `t.ch`, an old `t.p` and an old `t.pool`.
 fn left_by(alloc: Global, given: &Given<'_>) -> Result<Left, OutOfMemory> {
     let mut shelf = MemShelf::new(alloc, ROOM, &[given.shelf_fails])?;
     shelf.put_file(b"t.web", given.web)?;
     shelf.put_file(b"a.pool", given.web)?;
     shelf.put_file(b"t.ch", given.change)?;
     shelf.put_file(b"t.p", OLD)?;
+    shelf.put_file(b"t.pool", OLD)?;
     let mut con = MemSink::new(alloc, ROOM, &[given.console_fails])?;
     let words = words_of(alloc, given.words)?;
     let status = run(alloc, &words, &mut shelf, &mut con, &mut Vec::new(alloc));
     Ok(Left { status, shelf, con })
 }
 
-// Words, the status to which they lead where only `t.web`, `a.pool` and `t.ch` are there, and what `t.p` then holds.
+// Words over the web `@ @p aa bb`, and the status to which they lead where there is no other file than those of a run.
 #[derive(Clone, Copy)]
 struct Line {
     words: &'static [u8],
     status: u8,
-    pascal: &'static [u8],
 }
 
 #[test]
 fn reads_the_words(rt: HostRuntime) -> Result<(), Fail> {
     #[rattlefmt::skip]
     let rows = [
-        Line { words: b"tangle|t.web", status: 0, pascal: DONE },
-        Line { words: b"tangle|t.web|t.ch", status: 0, pascal: DONE },
-        Line { words: b"tangle|--|t.web", status: 0, pascal: DONE },
-        Line { words: b"tangle|t.web|--|t.ch", status: 0, pascal: DONE },
-        Line { words: b"", status: 2, pascal: OLD },
-        Line { words: b"tangle", status: 2, pascal: OLD },
-        Line { words: b"tangle|--", status: 2, pascal: OLD },
-        Line { words: b"tangle|-x|t.web", status: 2, pascal: OLD },
-        Line { words: b"tangle|-t.web", status: 2, pascal: OLD },
-        Line { words: b"tangle|--|--|t.web|t.ch", status: 2, pascal: OLD },
-        Line { words: b"tangle|t.web|t.ch|t2.ch", status: 2, pascal: OLD },
-        Line { words: b"tangle|", status: 2, pascal: OLD },
-        Line { words: b"|t.web", status: 2, pascal: OLD },
-        Line { words: b"tangle|.web", status: 2, pascal: OLD },
-        Line { words: b"tangle|t web", status: 2, pascal: OLD },
-        Line { words: b"tangle|t\"web", status: 2, pascal: OLD },
-        Line { words: b"tangle|t\\web", status: 2, pascal: OLD },
-        Line { words: b"tangle|t\x7f", status: 2, pascal: OLD },
-        Line { words: b"tangle|t\xc8", status: 2, pascal: OLD },
-        Line { words: b"Tangle|t.web", status: 2, pascal: OLD },
-        Line { words: b"convert|t.p", status: 2, pascal: OLD },
-        Line { words: b"pooltype", status: 2, pascal: OLD },
-        Line { words: b"pooltype|--", status: 2, pascal: OLD },
-        Line { words: b"pooltype|a.pool|b.pool", status: 2, pascal: OLD },
-        Line { words: b"pooltype|-x|a.pool", status: 2, pascal: OLD },
-        Line { words: b"pooltype|", status: 2, pascal: OLD },
-        Line { words: b"pooltype|a pool", status: 2, pascal: OLD },
-        Line { words: b"pooltype|a\"pool", status: 2, pascal: OLD },
-        Line { words: b"pooltype|a\x7f", status: 2, pascal: OLD },
-        Line { words: b"pooltype|b.pool", status: 3, pascal: OLD },
-        Line { words: b"tangle|-", status: 3, pascal: OLD },
-        Line { words: b"tangle|--|-t.web", status: 3, pascal: OLD },
-        Line { words: b"tangle|u.web", status: 3, pascal: OLD },
-        Line { words: b"tangle|t.web|u.ch", status: 3, pascal: OLD },
+        Line { words: b"tangle|t.web", status: 0 },
+        Line { words: b"tangle|t.web|t.ch", status: 0 },
+        Line { words: b"tangle|--|t.web", status: 0 },
+        Line { words: b"tangle|t.web|--|t.ch", status: 0 },
+        Line { words: b"tangle|--length|50|--strict|t.web", status: 0 },
+        Line { words: b"tangle|t.web|--length=007|--mixedcase|--loose", status: 0 },
+        Line { words: b"", status: 2 },
+        Line { words: b"tangle", status: 2 },
+        Line { words: b"tangle|--", status: 2 },
+        Line { words: b"tangle|-x|t.web", status: 2 },
+        Line { words: b"tangle|-t.web", status: 2 },
+        Line { words: b"tangle|--|--|t.web|t.ch", status: 2 },
+        Line { words: b"tangle|t.web|t.ch|t2.ch", status: 2 },
+        Line { words: b"tangle|", status: 2 },
+        Line { words: b"|t.web", status: 2 },
+        Line { words: b"tangle|.web", status: 2 },
+        Line { words: b"tangle|t web", status: 2 },
+        Line { words: b"tangle|t\"web", status: 2 },
+        Line { words: b"tangle|t\\web", status: 2 },
+        Line { words: b"tangle|t\x7f", status: 2 },
+        Line { words: b"tangle|t\xc8", status: 2 },
+        Line { words: b"Tangle|t.web", status: 2 },
+        Line { words: b"tangle|t.web|--length|0", status: 2 },
+        Line { words: b"tangle|t.web|--length=51", status: 2 },
+        Line { words: b"tangle|t.web|--length", status: 2 },
+        Line { words: b"tangle|--length|--|t.web", status: 2 },
+        Line { words: b"tangle|--strict|--loose|t.web", status: 2 },
+        Line { words: b"tangle|--underline|--underline|t.web", status: 2 },
+        Line { words: b"tangle|--uppercase|t.web|--lowercase", status: 2 },
+        Line { words: b"tangle|--strict=1|t.web", status: 2 },
+        Line { words: b"convert|t.p", status: 2 },
+        Line { words: b"pooltype", status: 2 },
+        Line { words: b"pooltype|--", status: 2 },
+        Line { words: b"pooltype|a.pool|b.pool", status: 2 },
+        Line { words: b"pooltype|--strict|a.pool", status: 2 },
+        Line { words: b"pooltype|", status: 2 },
+        Line { words: b"pooltype|a pool", status: 2 },
+        Line { words: b"pooltype|b.pool", status: 3 },
+        Line { words: b"tangle|-", status: 3 },
+        Line { words: b"tangle|--|-t.web", status: 3 },
+        Line { words: b"tangle|u.web", status: 3 },
+        Line { words: b"tangle|t.web|u.ch", status: 3 },
     ];
     for (index, row) in rows.iter().enumerate() {
         let given = Given {
@@ -123,62 +133,38 @@ fn reads_the_words(rt: HostRuntime) -> Result<(), Fail> {
         };
         let left = left_by(rt.alloc(), &given)?;
         let console = if row.status == 2 { USAGE } else { b"" };
+        let pascal = if row.status == 0 { DONE } else { OLD };
         assert_eq!(rt; (index, left.status), (index, row.status));
         assert_eq!(rt; (index, left.con.bytes()), (index, console));
-        assert_eq!(rt; (index, left.pascal()), (index, row.pascal));
+        assert_eq!(rt; (index, left.file(b"t.p")), (index, pascal));
+        assert_eq!(rt; (index, left.file(b"t.pool")), (index, OLD));
     }
     Ok(())
 }
 
-// A web, and what `tangle t.web` makes of it.
+// Words, a web and a change file, and what they come to: the status, the console's text, the Pascal file and the pool.
 #[derive(Clone, Copy)]
 struct Web {
-    web: &'static [u8],
-    status: u8,
-    console: &'static [u8],
-    pascal: &'static [u8],
-}
-
-#[test]
-fn tangles_webs(rt: HostRuntime) -> Result<(), Fail> {
-    #[rattlefmt::skip]
-    let rows = [
-        Web { web: b"@ @p program t; begin end.", status: 0, console: b"", pascal: b"{1:}program t;begin end.{:1}\n" },
-        Web { web: b"@ @p aa bb", status: 0, console: b"", pascal: DONE },
-        Web { web: b"@ @p x:=1", status: 1, console: b"! t.web:1: not built yet (F90)\n", pascal: OLD },
-        Web { web: b"@ @p x\xc8", status: 1, console: b"! t.web:1: bad byte (F8)\n", pascal: OLD },
-        Web { web: b"@ text @p cc", status: 1, console: b"! t.web:1: not built yet (F90)\n", pascal: OLD },
-        Web { web: b"@ @p\n\nx;\n y :", status: 1, console: b"! t.web:4: not built yet (F90)\n", pascal: OLD },
-    ];
-    for (index, row) in rows.iter().enumerate() {
-        let given = Given {
-            words: b"tangle|t.web",
-            web: row.web,
-            change: b"",
-            shelf_fails: 0,
-            console_fails: 0,
-        };
-        let left = left_by(rt.alloc(), &given)?;
-        assert_eq!(rt; (index, left.status), (index, row.status));
-        assert_eq!(rt; (index, left.con.bytes()), (index, row.console));
-        assert_eq!(rt; (index, left.pascal()), (index, row.pascal));
-    }
-    Ok(())
-}
-
-// A web and a change file, and what `tangle t.web t.ch` makes of them.
-#[derive(Clone, Copy)]
-struct Changed {
+    words: &'static [u8],
     web: &'static [u8],
     change: &'static [u8],
     status: u8,
     console: &'static [u8],
     pascal: &'static [u8],
+    pool: &'static [u8],
 }
+
+const T: &[u8] = b"tangle|t.web";
+
+const T_CH: &[u8] = b"tangle|t.web|t.ch";
 
 const THREE: &[u8] = b"@ @p program t;\nbegin\nend.";
 
 const WHOLE: &[u8] = b"{1:}program t;begin end.{:1}\n";
+
+const SUM_LEFT_OUT: &[u8] = b"! t.web:1: check sum left out (F43)\n";
+
+const NOT_PRESENT: &[u8] = b"! t.p:2: section not present (F29)\n";
 
 const DIFFERS: &[u8] = b"! t.ch:4: change lines differ (F7)\n";
 
@@ -186,7 +172,7 @@ const NOT_FOUND: &[u8] = b"! t.ch:1: change block not found (F6)\n";
 
 const NO_NEW_PART: &[u8] = b"! t.ch:1: no @y (F3)\n";
 
-const NOT_BUILT_5: &[u8] = b"! t.ch:5: not built yet (F90)\n";
+const BAD_BYTE: &[u8] = b"! t.web:1: bad byte (F8)\n";
 
 const BAD_BYTE_5: &[u8] = b"! t.ch:5: bad byte (F8)\n";
 
@@ -194,30 +180,47 @@ const STRAY_MARK: &[u8] = b"! t.ch:1: stray change mark (F2)\n";
 
 const NO_END: &[u8] = b"! t.ch:1: no @z (F4)\n";
 
-const NOT_BUILT: &[u8] = b"! t.web:0: not built yet (F90)\n";
-
 #[test]
-fn tangles_webs_with_changes(rt: HostRuntime) -> Result<(), Fail> {
+fn tangles_webs(rt: HostRuntime) -> Result<(), Fail> {
     #[rattlefmt::skip]
     let rows = [
-        Changed { web: THREE, change: b"@x\n\nbegin\nend;\n@y\nbegin end.\n@z",
-            status: 1, console: DIFFERS, pascal: OLD },
-        Changed { web: THREE, change: b"@x\n\nbegin\nend.\n@y\nbegin end.\n@z",
-            status: 0, console: b"", pascal: WHOLE },
-        Changed { web: THREE, change: b"@x\n\nstart\nend.\n@y\nbegin end.\n@z",
-            status: 1, console: NOT_FOUND, pascal: OLD },
-        Changed { web: THREE, change: b"@x\n\nbegin\nend.\n@z\nbegin end.\n@z",
-            status: 1, console: NO_NEW_PART, pascal: OLD },
-        Changed { web: b"@ @p aa", change: b"@x\n@ @p aa\n@y\n@ @p\na+b\n@z",
-            status: 1, console: NOT_BUILT_5, pascal: OLD },
-        Changed { web: THREE, change: b"@x\nbegin\n@y\n\n\xc8\n@z", status: 1, console: BAD_BYTE_5, pascal: OLD },
-        Changed { web: b"@ text @p cc", change: b"@y", status: 1, console: STRAY_MARK, pascal: OLD },
-        Changed { web: b"@ @p aa", change: b"@x\n@ @p aa\n@y\n@ @z", status: 1, console: NO_END, pascal: OLD },
-        Changed { web: b"@ @p aa", change: b"@x\n@ @p aa\n@y\n@*\n@z", status: 1, console: NOT_BUILT, pascal: OLD },
+        Web { words: T, web: THREE, change: b"", status: 0, console: b"", pascal: WHOLE, pool: OLD },
+        Web { words: T, web: b"@ @p x:=\"ab\"; y:=\"A\"", change: b"",
+            status: 0, console: b"", pascal: b"{1:}x:=256;y:=65{:1}\n", pool: b"02ab\n*000000000\n" },
+        Web { words: T, web: b"@ @p x:=\"\"; y:=\"\"\"\"", change: b"",
+            status: 0, console: b"", pascal: b"{1:}x:=256;y:=34{:1}\n", pool: b"00\n*000000000\n" },
+        Web { words: T, web: b"", change: b"", status: 0, console: NO_OUTPUT, pascal: b"", pool: OLD },
+        Web { words: T, web: b"@ @p aa bb\n@ text @p cc", change: b"",
+            status: 0, console: b"", pascal: b"{1:}aa bb{:1}{2:}cc{:2}\n", pool: OLD },
+        Web { words: T, web: b"@ @p z:=@$", change: b"", status: 1, console: SUM_LEFT_OUT, pascal: OLD, pool: OLD },
+        Web { words: T, web: b"@ @p x\xc8", change: b"", status: 1, console: BAD_BYTE, pascal: OLD, pool: OLD },
+        Web { words: T, web: b"@ @p \"ab\"@\\bb @<X@>", change: b"",
+            status: 1, console: NOT_PRESENT, pascal: b"{1:}256\n", pool: OLD },
+        Web { words: b"tangle|--uppercase|t.web", web: b"@ @p foo:=x", change: b"",
+            status: 0, console: b"", pascal: b"{1:}FOO:=X{:1}\n", pool: OLD },
+        Web { words: b"tangle|t.web|--underline", web: b"@ @p a_b:=A_B", change: b"",
+            status: 0, console: b"", pascal: b"{1:}a_b:=A_B{:1}\n", pool: OLD },
+        Web { words: T_CH, web: b"@ @p aa", change: b"@x\n@ @p aa\n@y\n@ @p\na+b\n@z",
+            status: 0, console: b"", pascal: b"{1:}a+b{:1}\n", pool: OLD },
+        Web { words: T_CH, web: b"@ @p aa", change: b"@x\n@ @p aa\n@y\n@*\n@z",
+            status: 0, console: NO_OUTPUT, pascal: b"", pool: OLD },
+        Web { words: T_CH, web: THREE, change: b"@x\n\nbegin\nend;\n@y\nbegin end.\n@z",
+            status: 1, console: DIFFERS, pascal: OLD, pool: OLD },
+        Web { words: T_CH, web: THREE, change: b"@x\n\nbegin\nend.\n@y\nbegin end.\n@z",
+            status: 0, console: b"", pascal: WHOLE, pool: OLD },
+        Web { words: T_CH, web: THREE, change: b"@x\n\nstart\nend.\n@y\nbegin end.\n@z",
+            status: 1, console: NOT_FOUND, pascal: OLD, pool: OLD },
+        Web { words: T_CH, web: THREE, change: b"@x\n\nbegin\nend.\n@z\nbegin end.\n@z",
+            status: 1, console: NO_NEW_PART, pascal: OLD, pool: OLD },
+        Web { words: T_CH, web: THREE, change: b"@x\nbegin\n@y\n\n\xc8\n@z",
+            status: 1, console: BAD_BYTE_5, pascal: OLD, pool: OLD },
+        Web { words: T_CH, web: b"@ @p }", change: b"@y", status: 1, console: STRAY_MARK, pascal: OLD, pool: OLD },
+        Web { words: T_CH, web: b"@ @p aa", change: b"@x\n@ @p aa\n@y\n@ @z",
+            status: 1, console: NO_END, pascal: OLD, pool: OLD },
     ];
     for (index, row) in rows.iter().enumerate() {
         let given = Given {
-            words: b"tangle|t.web|t.ch",
+            words: row.words,
             web: row.web,
             change: row.change,
             shelf_fails: 0,
@@ -226,7 +229,8 @@ fn tangles_webs_with_changes(rt: HostRuntime) -> Result<(), Fail> {
         let left = left_by(rt.alloc(), &given)?;
         assert_eq!(rt; (index, left.status), (index, row.status));
         assert_eq!(rt; (index, left.con.bytes()), (index, row.console));
-        assert_eq!(rt; (index, left.pascal()), (index, row.pascal));
+        assert_eq!(rt; (index, left.file(b"t.p")), (index, row.pascal));
+        assert_eq!(rt; (index, left.file(b"t.pool")), (index, row.pool));
     }
     Ok(())
 }
@@ -285,90 +289,72 @@ fn lists_pools(rt: HostRuntime) -> Result<(), Fail> {
             "row {index}"
         );
         assert!(rt; printed.ends_with(row.end), "row {index}");
-        assert_eq!(rt; (index, left.pascal()), (index, OLD));
+        assert_eq!(rt; (index, left.file(b"t.p")), (index, OLD));
     }
     Ok(())
 }
 
-// Words over files of one line that is too long, and the console's text.
-#[derive(Clone, Copy)]
-struct Long {
-    words: &'static [u8],
-    console: &'static [u8],
-}
-
-#[test]
-fn refuses_a_line_that_is_too_long(rt: HostRuntime) -> Result<(), Fail> {
-    #[rattlefmt::skip]
-    let rows = [
-        Long { words: b"tangle|t.web", console: b"! t.web:1: line too long (F1)\n" },
-        Long { words: b"tangle|t.web|t.ch", console: b"! t.ch:1: line too long (F1)\n" },
-    ];
-    let long = vec![in rt.alloc(); b'a'; 3001]?;
-    for (index, row) in rows.iter().enumerate() {
-        let given = Given {
-            words: row.words,
-            web: &long,
-            change: &long,
-            shelf_fails: 0,
-            console_fails: 0,
-        };
-        let left = left_by(rt.alloc(), &given)?;
-        assert_eq!(rt; (index, left.status), (index, 1));
-        assert_eq!(rt; (index, left.con.bytes()), (index, row.console));
-        assert_eq!(rt; (index, left.pascal()), (index, OLD));
-    }
-    Ok(())
-}
-
-// The number of a call of the shelf that fails, and what `t.p` then holds. The calls are two of `load`, and one each of
-// `create`, `write` and `close`.
+// The number of a call of the shelf that fails, and what `t.p` and `t.pool` then hold. The calls are two of `load`, and
+// `create`, `write` and `close` of either file.
 #[derive(Clone, Copy)]
 struct FailingShelf {
     fails: u64,
+    status: u8,
     pascal: &'static [u8],
+    pool: &'static [u8],
 }
+
+const X: &[u8] = b"{1:}x:=256{:1}\n";
+
+const POOL: &[u8] = b"02ab\n*000000000\n";
 
 #[test]
 fn ends_with_status_3_where_the_shelf_fails(rt: HostRuntime) -> Result<(), Fail> {
     #[rattlefmt::skip]
     let rows = [
-        FailingShelf { fails: 1, pascal: OLD },
-        FailingShelf { fails: 2, pascal: OLD },
-        FailingShelf { fails: 3, pascal: OLD },
-        FailingShelf { fails: 4, pascal: b"" },
-        FailingShelf { fails: 5, pascal: DONE },
+        FailingShelf { fails: 1, status: 3, pascal: OLD, pool: OLD },
+        FailingShelf { fails: 2, status: 3, pascal: OLD, pool: OLD },
+        FailingShelf { fails: 3, status: 3, pascal: OLD, pool: OLD },
+        FailingShelf { fails: 4, status: 3, pascal: b"", pool: OLD },
+        FailingShelf { fails: 5, status: 3, pascal: X, pool: OLD },
+        FailingShelf { fails: 6, status: 3, pascal: X, pool: OLD },
+        FailingShelf { fails: 7, status: 3, pascal: X, pool: b"" },
+        FailingShelf { fails: 8, status: 3, pascal: X, pool: POOL },
+        FailingShelf { fails: 9, status: 0, pascal: X, pool: POOL },
     ];
     for (index, row) in rows.iter().enumerate() {
         let given = Given {
-            words: b"tangle|t.web|t.ch",
-            web: b"@ @p aa bb",
+            words: T_CH,
+            web: b"@ @p x:=\"ab\"",
             change: b"",
             shelf_fails: row.fails,
             console_fails: 0,
         };
         let left = left_by(rt.alloc(), &given)?;
-        assert_eq!(rt; (index, left.status), (index, 3));
+        assert_eq!(rt; (index, left.status), (index, row.status));
         assert!(rt; left.con.bytes().is_empty(), "row {index}");
-        assert_eq!(rt; (index, left.pascal()), (index, row.pascal));
+        assert_eq!(rt; (index, left.file(b"t.p")), (index, row.pascal));
+        assert_eq!(rt; (index, left.file(b"t.pool")), (index, row.pool));
     }
     Ok(())
 }
 
-// Words, and what `t.web` and `a.pool` hold, at which the console is called.
+// Words, what `t.web` and `a.pool` hold, at which the console is called, and what `t.p` then holds.
 #[derive(Clone, Copy)]
 struct FailingConsole {
     words: &'static [u8],
     web: &'static [u8],
+    pascal: &'static [u8],
 }
 
 #[test]
 fn ends_with_status_3_where_the_console_fails(rt: HostRuntime) -> Result<(), Fail> {
     #[rattlefmt::skip]
     let rows = [
-        FailingConsole { words: b"tangle", web: b"" },
-        FailingConsole { words: b"tangle|t.web", web: b"@ @p a..b" },
-        FailingConsole { words: b"pooltype|a.pool", web: b"02ab\n*000000000\n" },
+        FailingConsole { words: b"tangle", web: b"", pascal: OLD },
+        FailingConsole { words: T, web: b"@ @p }", pascal: OLD },
+        FailingConsole { words: T, web: b"@ text", pascal: b"" },
+        FailingConsole { words: b"pooltype|a.pool", web: POOL, pascal: OLD },
     ];
     for (index, row) in rows.iter().enumerate() {
         let given = Given {
@@ -381,7 +367,7 @@ fn ends_with_status_3_where_the_console_fails(rt: HostRuntime) -> Result<(), Fai
         let left = left_by(rt.alloc(), &given)?;
         assert_eq!(rt; (index, left.status), (index, 3));
         assert!(rt; left.con.bytes().is_empty(), "row {index}");
-        assert_eq!(rt; (index, left.pascal()), (index, OLD));
+        assert_eq!(rt; (index, left.file(b"t.p")), (index, row.pascal));
     }
     Ok(())
 }

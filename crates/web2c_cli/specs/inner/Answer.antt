@@ -3,7 +3,7 @@ use Rattle.std.specs.Prelude.{ℕ, List, [], ◌∷◌, take, Option, Some, opti
 use Rattle.std.specs.Option.{option_and_then}
 use Rattle.wb_ports.specs.Files.{Files}
 use Rattle.wb_ports.specs.declared.shelf.TheConstants.{LOAD_LIMIT}
-use Rattle.web2c_cli.specs.Work.{Act, leaves, prints, Work, loads, does, ends, World, with_file, after}
+use Rattle.tangle_core.specs.Work.{Act, leaves, prints, Work, loads, does, ends, World, with_file, after}
 
 -- the status, and the acts in their order
 pub record Answer : Type 0 where

@@ -1,11 +1,11 @@
 -- The definition of the command line at work.
-use Rattle.std.specs.Prelude.{◌≡◌, ℕ, List, [], ◌∷◌, codes, Option, Some, None, refl}
+use Rattle.std.specs.Prelude.{◌≡◌, ℕ, List, [], ◌∷◌, codes, Option, Some, None, true, false, refl}
+use Rattle.wb_base.specs.declared.options.Case.TheVariants.{Upper, Lower, Mixed}
 use Rattle.web2c_cli.specs.declared.command_table.Command.TheVariants.{Tangle, Pooltype}
-use Rattle.web2c_cli.specs.declared.command_table.NameKind.TheVariants.{File}
-use Rattle.web2c_cli.specs.declared.command_table.Value.TheVariants.{Fixed, Number}
+use Rattle.web2c_cli.specs.declared.command_table.Comparison.TheVariants.{Loose, Strict}
 use Rattle.web2c_cli.specs.declared.command_table.Setting.{Setting}
-use Rattle.web2c_cli.specs.CommandLine.{CommandForm, parts_of}
-use Rattle.web2c_cli.specs.CommandLine.{Request, ordered, usage, request_by, request_of}
+use Rattle.web2c_cli.specs.declared.command_table.Setting.TheVariants.{Length, Underline, Letters, Words}
+use Rattle.web2c_cli.specs.CommandLine.{parts_of, Request, ordered, usage, request_of, options_by_settings}
 
 -- the order to tangle the web with the change file, if there is one
 abbrev tangle : List ℕ → Option (List ℕ) → Request
@@ -99,102 +99,129 @@ pub two_pools : request_of (codes "pooltype" ∷ codes "a.pool" ∷ codes "b.poo
 unfolding request_of parts_of
 two_pools = refl
 
--- a command with options of each kind: a number of lines, and two that exclude each other
-abbrev example_form : CommandForm
-example_form = record {
-  word = codes "split";
-  command = Tangle;
-  needed = 1;
-  names = File ∷ [];
-  options =
-      record { spelling = codes "--lines"; which = 0; value = Number 50 10000 }
-      ∷ record { spelling = codes "--upper"; which = 1; value = Fixed 1 }
-      ∷ record { spelling = codes "--lower"; which = 1; value = Fixed 2 }
-      ∷ [];
-}
-
--- what is asked for by these words after that of the command
-abbrev asked : List (List ℕ) → Request
-asked words = request_by example_form (parts_of example_form.options words)
-
--- the order that has the file `a` and these settings
+-- the order to tangle the web `a` with these settings
 abbrev given : List Setting → Request
 given settings =
     ordered (record { command = Tangle; names = record { first = codes "a"; second = None }; settings = settings })
 
-abbrev lines : ℕ → Setting
-lines number = record { which = 0; value = number }
+-- what is asked for by these words after `tangle`
+abbrev asked : List (List ℕ) → Request
+asked words = request_of (codes "tangle" ∷ words)
 
-pub value_after_equals_sign : asked (codes "--lines=50" ∷ codes "a" ∷ []) ≡ given (lines 50 ∷ [])
-unfolding parts_of
+pub value_after_equals_sign : asked (codes "--length=50" ∷ codes "a" ∷ [])
+    ≡ given (Length 50 ∷ [])
+unfolding request_of parts_of
 value_after_equals_sign = refl
 
-pub value_in_next_word : asked (codes "a" ∷ codes "--lines" ∷ codes "0060" ∷ []) ≡ given (lines 60 ∷ [])
-unfolding parts_of
+pub value_in_next_word : asked (codes "a" ∷ codes "--length" ∷ codes "0032" ∷ [])
+    ≡ given (Length 32 ∷ [])
+unfolding request_of parts_of
 value_in_next_word = refl
 
-pub value_too_small : asked (codes "--lines=49" ∷ codes "a" ∷ []) ≡ usage
-unfolding parts_of
+pub least_value : asked (codes "--length=1" ∷ codes "a" ∷ [])
+    ≡ given (Length 1 ∷ [])
+unfolding request_of parts_of
+least_value = refl
+
+pub value_too_small : asked (codes "--length" ∷ codes "0" ∷ codes "a" ∷ [])
+    ≡ usage
+unfolding request_of parts_of
 value_too_small = refl
 
-pub value_too_big : asked (codes "--lines" ∷ codes "10001" ∷ codes "a" ∷ []) ≡ usage
-unfolding parts_of
+pub value_too_big : asked (codes "--length=51" ∷ codes "a" ∷ [])
+    ≡ usage
+unfolding request_of parts_of
 value_too_big = refl
 
-pub value_no_number : asked (codes "--lines=5o" ∷ codes "a" ∷ []) ≡ usage
-unfolding parts_of
+pub value_no_number : asked (codes "--length=5o" ∷ codes "a" ∷ [])
+    ≡ usage
+unfolding request_of parts_of
 value_no_number = refl
 
-pub value_empty : asked (codes "--lines=" ∷ codes "a" ∷ []) ≡ usage
-unfolding parts_of
+pub value_empty : asked (codes "--length=" ∷ codes "a" ∷ [])
+    ≡ usage
+unfolding request_of parts_of
 value_empty = refl
 
-pub value_with_equals_sign : asked (codes "--lines==50" ∷ codes "a" ∷ []) ≡ usage
-unfolding parts_of
+pub value_with_equals_sign : asked (codes "--length==5" ∷ codes "a" ∷ [])
+    ≡ usage
+unfolding request_of parts_of
 value_with_equals_sign = refl
 
-pub value_past_64_bits : asked (codes "--lines=18446744073709551617" ∷ codes "a" ∷ []) ≡ usage
-unfolding parts_of
+pub value_past_64_bits : asked (codes "--length=18446744073709551617" ∷ codes "a" ∷ [])
+    ≡ usage
+unfolding request_of parts_of
 value_past_64_bits = refl
 
-pub value_is_an_option : asked (codes "--lines" ∷ codes "--upper" ∷ codes "a" ∷ []) ≡ usage
-unfolding parts_of
+pub value_is_an_option : asked (codes "--length" ∷ codes "--strict" ∷ codes "a" ∷ [])
+    ≡ usage
+unfolding request_of parts_of
 value_is_an_option = refl
 
-pub value_missing : asked (codes "a" ∷ codes "--lines" ∷ []) ≡ usage
-unfolding parts_of
+pub value_missing : asked (codes "a" ∷ codes "--length" ∷ [])
+    ≡ usage
+unfolding request_of parts_of
 value_missing = refl
 
-pub value_is_end_mark : asked (codes "--lines" ∷ codes "--" ∷ codes "a" ∷ []) ≡ usage
-unfolding parts_of
+pub value_is_end_mark : asked (codes "--length" ∷ codes "--" ∷ codes "a" ∷ [])
+    ≡ usage
+unfolding request_of parts_of
 value_is_end_mark = refl
 
-pub value_not_wanted : asked (codes "--upper=1" ∷ codes "a" ∷ []) ≡ usage
-unfolding parts_of
+pub value_not_wanted : asked (codes "--strict=1" ∷ codes "a" ∷ [])
+    ≡ usage
+unfolding request_of parts_of
 value_not_wanted = refl
 
-pub empty_value_not_wanted : asked (codes "--upper=" ∷ codes "a" ∷ []) ≡ usage
-unfolding parts_of
+pub empty_value_not_wanted : asked (codes "--strict=" ∷ codes "a" ∷ [])
+    ≡ usage
+unfolding request_of parts_of
 empty_value_not_wanted = refl
 
-pub two_settings : asked (codes "--lower" ∷ codes "a" ∷ codes "--lines=99" ∷ [])
-    ≡ given (record { which = 1; value = 2 } ∷ lines 99 ∷ [])
-unfolding parts_of
-two_settings = refl
+pub four_settings : asked (codes "--lowercase" ∷ codes "a" ∷ codes "--length=9" ∷ codes "--underline" ∷ codes "--loose" ∷ [])
+    ≡ given (Letters Lower ∷ Length 9 ∷ Underline ∷ Words Loose ∷ [])
+unfolding request_of parts_of
+four_settings = refl
 
-pub given_twice : asked (codes "--lines=50" ∷ codes "--lines" ∷ codes "50" ∷ codes "a" ∷ []) ≡ usage
-unfolding parts_of
+pub given_twice : asked (codes "--length=50" ∷ codes "--length" ∷ codes "50" ∷ codes "a" ∷ [])
+    ≡ usage
+unfolding request_of parts_of
 given_twice = refl
 
-pub two_that_exclude : asked (codes "--upper" ∷ codes "a" ∷ codes "--lower" ∷ []) ≡ usage
-unfolding parts_of
-two_that_exclude = refl
+pub underline_twice : asked (codes "--underline" ∷ codes "a" ∷ codes "--underline" ∷ [])
+    ≡ usage
+unfolding request_of parts_of
+underline_twice = refl
 
-pub option_after_end_mark : asked (codes "--" ∷ codes "--upper" ∷ [])
-    ≡ ordered (record { command = Tangle; names = record { first = codes "--upper"; second = None }; settings = [] })
-unfolding parts_of
+pub two_cases : asked (codes "--uppercase" ∷ codes "a" ∷ codes "--mixedcase" ∷ [])
+    ≡ usage
+unfolding request_of parts_of
+two_cases = refl
+
+pub strict_and_loose : asked (codes "--strict" ∷ codes "--loose" ∷ codes "a" ∷ [])
+    ≡ usage
+unfolding request_of parts_of
+strict_and_loose = refl
+
+pub option_after_end_mark : asked (codes "--" ∷ codes "--strict" ∷ [])
+    ≡ ordered (record { command = Tangle; names = record { first = codes "--strict"; second = None }; settings = [] })
+unfolding request_of parts_of
 option_after_end_mark = refl
 
-pub part_of_a_spelling : asked (codes "--up" ∷ codes "a" ∷ []) ≡ usage
-unfolding parts_of
+pub part_of_a_spelling : asked (codes "--up" ∷ codes "a" ∷ [])
+    ≡ usage
+unfolding request_of parts_of
 part_of_a_spelling = refl
+
+pub one_dash : asked (codes "-strict" ∷ codes "a" ∷ [])
+    ≡ usage
+unfolding request_of parts_of
+one_dash = refl
+
+-- what the settings choose
+pub chosen_by_default : options_by_settings [] ≡ record { length = 32; underline = false; case = Mixed; strict = false }
+chosen_by_default = refl
+
+pub chosen_all : options_by_settings (Words Strict ∷ Length 7 ∷ Letters Upper ∷ Underline ∷ [])
+    ≡ record { length = 7; underline = true; case = Upper; strict = true }
+chosen_all = refl

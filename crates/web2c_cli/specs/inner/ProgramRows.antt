@@ -17,7 +17,7 @@ use Rattle.web_pool.specs.PoolLines.{read_from}
 use Rattle.web_pool.specs.Listing.{listing}
 use Rattle.web2c_cli.specs.Tangled.{tangled_text}
 use Rattle.web2c_cli.specs.CommandLine.{parts_of, request_of, usage_line}
-use Rattle.web2c_cli.specs.Work.{leaves, prints}
+use Rattle.tangle_core.specs.Work.{leaves, prints}
 use Rattle.web2c_cli.specs.Program.{work_of}
 use Rattle.web2c_cli.specs.inner.Answer.{Answer, answer_of}
 

@@ -1,8 +1,6 @@
 -- What a call has done of the work that is to be done, and what is left of it.
 use Rattle.std.specs.Prelude.{ℕ, List, Bool, true, false, Option, Result, Ok, Err}
 use Rattle.wb_base.specs.declared.faults.Fault.{Fault as Flaw}
-use Rattle.wb_base.specs.declared.faults.WorkErr.{WorkErr}
-use Rattle.wb_base.specs.declared.faults.WorkErr.TheVariants.{Fault as of_input, OutOfMemory as no_memory}
 use Rattle.wb_ports.specs.declared.shelf.FailedCall.{FailedCall}
 use Rattle.wb_ports.specs.Files.{Files}
 use Rattle.wb_ports.specs.declared.answers.PortErr.{PortErr}
@@ -19,19 +17,23 @@ use Rattle.web2c_cli.specs.declared.halt.Stop.TheVariants.{Shelf, Console, OutOf
 use Rattle.web2c_cli.specs.declared.halt.Halt.{Halt}
 use Rattle.web2c_cli.specs.declared.halt.Halt.TheVariants.{Fault, Stopped}
 use Rattle.web2c_cli.specs.CommandLine.{Order}
-use Rattle.web2c_cli.specs.Work.{Work, loads, does, leaves, prints, ends, World, Cause, by_shelf, by_console}
-use Rattle.web2c_cli.specs.Work.{by_memory, Ends, Stops}
-use Rattle.web2c_cli.specs.Program.{refused, loads_change, tangling, world_of, printing_listing}
+use Rattle.tangle_core.specs.Work.{Work, loads, does, leaves, prints, ends, World, Cause, by_shelf, by_console}
+use Rattle.tangle_core.specs.Work.{by_memory, Ends, Stops}
+use Rattle.tangle_core.specs.declared.job.TangleErr.{TangleErr}
+use Rattle.tangle_core.specs.declared.job.TangleErr.TheVariants as of_tangling
+use Rattle.tangle_core.specs.Job.{Reaches, world_of}
+use Rattle.web2c_cli.specs.Program.{refused, tangle_work, telling_no_output, printing_listing}
 
 -- what a failed call of the shelf becomes
 abbrev pub stop_by_port : PortErr → Stop
 stop_by_port failed_call = Shelf
 stop_by_port no_memory_for_call = OutOfMemory
 
--- what a refusal of work on an input becomes
-abbrev pub halt_by_work : WorkErr → Halt
-halt_by_work (of_input fault) = Fault fault
-halt_by_work no_memory = Stopped OutOfMemory
+-- what a refusal of tangling becomes
+abbrev pub halt_by_tangling : TangleErr → Halt
+halt_by_tangling (of_tangling.Fault fault) = Fault fault
+halt_by_tangling of_tangling.Failed = Stopped Shelf
+halt_by_tangling of_tangling.OutOfMemory = Stopped OutOfMemory
 
 -- the status of a run that ended by itself, or was stopped
 abbrev pub status_of : Result Status Stop → Status
@@ -75,11 +77,6 @@ is_halted_by_console (Err (Stopped Shelf)) = false
 is_halted_by_console (Err (Stopped Console)) = true
 is_halted_by_console (Err (Stopped OutOfMemory)) = false
 
--- what is said of the rest from the world in the middle holds of the work from the world before
-pub record Reaches (work rest : Work) (before mid : World) : Type 0 where
-  pub ends : (status : ℕ) (now : World) → Ends rest status mid now → Ends work status before now
-  pub stops : (cause : Cause) (now : World) → Stops rest cause mid now → Stops work cause before now
-
 -- what stopped the work, with the last failed call of the shelf
 abbrev pub cause_of : Stop → Option FailedCall → Cause
 cause_of Shelf last = by_shelf last
@@ -109,36 +106,23 @@ Loading name result last before now =
     (next : List ℕ → Work) (console : Option (List ℕ)) (ports : Option (List (List ℕ)))
     → Performs (loads name next) next result last (world_of before console ports) (world_of now console ports)
 
--- the load of a change file, if there is one
-abbrev pub LoadingChange : Option (List ℕ) → Result (List ℕ) Stop → Option FailedCall → Option Files → Option Files
-    → Type 0
-LoadingChange change result last before now =
-    (next : List ℕ → Work) (console : Option (List ℕ)) (ports : Option (List (List ℕ)))
-    → Performs (loads_change change next) next result last
-    (world_of before console ports) (world_of now console ports)
-
--- the writing of a file
-abbrev pub Leaving : List ℕ → List ℕ → Result (Unit {0}) Stop → Option FailedCall → Option Files → Option Files
-    → Type 0
-Leaving name bytes result last before now =
-    (rest : Work) (console : Option (List ℕ)) (ports : Option (List (List ℕ)))
-    → Performs (does (leaves name bytes) rest) (λ _. rest) result last
-    (world_of before console ports) (world_of now console ports)
-
 -- the tangling of a web with a change file, if there is one
-abbrev pub Tangling : List ℕ → Option (List ℕ) → Result (List ℕ) Halt → Option FailedCall → Option Files
-    → Option Files
-    → Type 0
-Tangling web change result last before now =
-    (order : Order) (next : List ℕ → Work) (console : Option (List ℕ)) (ports : Option (List (List ℕ)))
-    → Goes (refused order) (tangling order web change next) next result last
-    (world_of before console ports) (world_of now console ports)
+abbrev pub Tangling : Order → Result (Unit {0}) Halt → Option FailedCall → World → World → Type 0
+Tangling order result last before now =
+    Goes (refused order) (tangle_work order) (λ _. ends (number_of Done)) result last before now
 
 -- the printing of a text
 abbrev pub Printing : List ℕ → Result (Unit {0}) Stop → Option (List ℕ) → Option (List ℕ) → Type 0
 Printing text result before now =
     (rest : Work) (last : Option FailedCall) (files : Option Files) (ports : Option (List (List ℕ)))
     → Performs (does (prints text) rest) (λ _. rest) result last (world_of files before ports)
+    (world_of files now ports)
+
+-- what is said of a web without output, where it is so
+abbrev pub TellingNoOutput : Bool → Result (Unit {0}) Stop → Option (List ℕ) → Option (List ℕ) → Type 0
+TellingNoOutput no_output result before now =
+    (rest : Work) (last : Option FailedCall) (files : Option Files) (ports : Option (List (List ℕ)))
+    → Performs (telling_no_output no_output rest) (λ _. rest) result last (world_of files before ports)
     (world_of files now ports)
 
 -- the printing of a fault's line, which concludes the work

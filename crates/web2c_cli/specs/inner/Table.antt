@@ -5,7 +5,7 @@ use Rattle.web2c_cli.specs.declared.command_table.CommandRow.{CommandRow}
 use Rattle.web2c_cli.specs.CommandLine.{OptionForm, CommandForm}
 
 abbrev pub option_by : OptionRow → OptionForm
-option_by row = record { spelling = row.spelling.now; which = row.which; value = row.value }
+option_by row = record { spelling = row.spelling.now; value = row.value }
 
 abbrev pub options_by : List OptionRow → List OptionForm
 options_by rows = map option_by rows

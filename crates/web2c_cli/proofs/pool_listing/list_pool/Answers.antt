@@ -2,7 +2,7 @@ use Rattle.std.proofs.Common.{List, ℕ, ap, sym}
 use Rattle.web_pool.specs.Listing.{listing}
 use Rattle.web2c_cli.specs.Program.{refused, printing_listing}
 use Rattle.web2c_cli.proofs.ListingLemmas.{goes_then}
-use Rattle.web2c_cli.proofs.ReachingLemmas.{rest_is}
+use Rattle.tangle_core.proofs.ReachingLemmas.{rest_is}
 use Rattle.web2c_cli.proofs.pool_listing.list_pool.Goals as goal
 
 pub returns-clause-work : goal.returns-clause-work

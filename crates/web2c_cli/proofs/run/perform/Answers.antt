@@ -1,6 +1,6 @@
 use Rattle.std.proofs.Common.{None, refl}
-use Rattle.web2c_cli.specs.Work.{ends}
-use Rattle.web2c_cli.proofs.ReachingLemmas.{ended}
+use Rattle.tangle_core.specs.Work.{ends}
+use Rattle.tangle_core.proofs.ReachingLemmas.{ended}
 use Rattle.web2c_cli.proofs.ConcludingLemmas.{concluded_by, concluded_then, printed}
 use Rattle.web2c_cli.proofs.run.perform.Goals as goal
 

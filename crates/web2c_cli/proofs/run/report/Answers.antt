@@ -1,8 +1,8 @@
 use Rattle.std.proofs.Common.{◌∙◌}
-use Rattle.web2c_cli.specs.Work.{prints, ends, by_memory}
+use Rattle.tangle_core.specs.Work.{prints, ends, by_memory}
 use Rattle.web2c_cli.specs.declared.halt.Stop.TheVariants.{OutOfMemory}
-use Rattle.web2c_cli.proofs.WorkLemmas.{now_same}
-use Rattle.web2c_cli.proofs.ReachingLemmas.{act_stopped}
+use Rattle.tangle_core.proofs.WorkLemmas.{now_same}
+use Rattle.tangle_core.proofs.ReachingLemmas.{act_stopped}
 use Rattle.web2c_cli.proofs.ConcludingLemmas.{concluded_by, printed}
 use Rattle.web2c_cli.proofs.run.report.Goals as goal
 

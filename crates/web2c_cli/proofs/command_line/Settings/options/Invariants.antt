@@ -1,15 +1,14 @@
-use Rattle.std.proofs.Common.{◌≡◌, ◌+◌, length, filter_map, if◌then◌else◌}
-use Rattle.web2c_cli.specs.CommandLine.{setting_in, times_given}
+use Rattle.std.proofs.Common.{◌≡◌, length, filter_map, fold}
+use Rattle.web2c_cli.specs.CommandLine.{setting_in, with_setting}
 use Rattle.web2c_cli.specs.inner.Table.{options_by}
 use Rattle.web2c_cli.specs.inner.Reading.{parts_from}
-use Rattle.web2c_cli.proofs.command_line.Settings.is_given_at_most_once.Given as goal
+use Rattle.web2c_cli.proofs.command_line.Settings.options.Given as goal
 
 abbrev pub invariant-loop-part : goal.invariant-loop-part
 invariant-loop-part l =
-    (if l.is_given then 1 else 0)
-    + times_given l.which
+    fold with_setting l.options
     (filter_map setting_in (parts_from (options_by l.self-inside.options.now) l.cursor l.self-inside.words.now))
-    ≡ times_given l.which
+    ≡ fold with_setting l.initial.options
     (filter_map setting_in
     (parts_from (options_by l.self-inside.options.now) l.initial.cursor l.self-inside.words.now))
 
