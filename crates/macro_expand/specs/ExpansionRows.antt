@@ -99,7 +99,8 @@ sections_of_a_web = (refl, refl, refl, refl, refl)
 
 -- an argument is sought in the texts around, too; a parameter in it is that of the text in which it stands
 pub arguments :
-    (expansion (codes "@ @d hlp1(#)==p(#);e" ∷ codes "@d hlp2(#)==p(#);hlp1" ∷ codes "@d help2==b hlp2" ∷ codes "@p help2(a)(b)" ∷ [])
+    (expansion (codes "@ @d hlp1(#)==p(#);e" ∷ codes "@d hlp2(#)==p(#);hlp1" ∷ codes "@d help2==b hlp2"
+    ∷ codes "@p help2(a)(b)" ∷ [])
     ≡ whole (text (codes "bp(a);p(b);e")))
     × (expansion (codes "@ @d ff(#)==gg(#+#)" ∷ codes "@d gg(#)==#*#" ∷ codes "@p ff(k)" ∷ [])
     ≡ whole (text (codes "k+k*k+k")))
@@ -142,7 +143,8 @@ unfolding scan_of sections section section_parts definition right_side macro_tex
     expansion_of given_by given_within removal with_argument
 without_end = (refl, refl)
 
--- each head that is removed is a step: here the mark, the macro, its argument in parentheses, the parameter, `k`, two ends, the mark
+-- each head that is removed is a step: here the mark, the macro, its argument in parentheses, the parameter, `k`, two
+-- ends, the mark
 -- and the last end
 pub steps :
     (expansion_by 11 (codes "@ @d ff(#)==#" ∷ codes "@p ff(k)" ∷ [])

@@ -106,7 +106,8 @@ impl<'w> Stack<'w> {
         requires some { 0 < length self.old.frames.items }
         requires left { 0 < self.old.steps }
         requires levels { AreLevels self.old.web.now (level_of top ∷ lower_levels self.old) }
-        ensures list { list_left self.new ≡ list_of self.old.web.now.tokens (level_of top.entry ∷ lower_levels self.old) }
+        ensures list { list_left self.new
+            ≡ list_of self.old.web.now.tokens (level_of top.entry ∷ lower_levels self.old) }
         ensures steps { self.new.steps ≡ self.old.steps - 1 }
         ensures sound { IsSound self.new }
         ensures web { self.new.web ≡ self.old.web }

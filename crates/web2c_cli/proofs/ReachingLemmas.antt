@@ -12,7 +12,8 @@ use Rattle.wb_ports.proofs.HeldLemmas.{gains_nothing}
 use Rattle.wb_base.specs.declared.faults.Fault.{Fault as Flaw}
 use Rattle.tangle_core.specs.Work.{prints, Work, loads, World, by_console, StopsLoad, Stops}
 use Rattle.tangle_core.specs.Job.{world_of}
-use Rattle.tangle_core.proofs.ReachingLemmas.{act_done, act_stopped, load_stopped, load_done, files_now, console_now, last_is}
+use Rattle.tangle_core.proofs.ReachingLemmas.{act_done, act_stopped, load_stopped, load_done, files_now, console_now}
+use Rattle.tangle_core.proofs.ReachingLemmas.{last_is}
 use Rattle.web2c_cli.specs.declared.halt.Stop.{Stop}
 use Rattle.web2c_cli.specs.declared.halt.Stop.TheVariants.{Console}
 use Rattle.web2c_cli.specs.declared.halt.Halt.{Halt}

@@ -22,12 +22,15 @@ use Rattle.web2c_cli.specs.inner.Reaching.{Goes, Tangling, halt_by_tangling}
 
 -- a web that was not tangled
 pub not_tangled : (order : Order) (job : Job) (err : TangleErr) (result : Result (Unit {0}) Halt)
-    (last : Option FailedCall) (u v : World) → job ≡ job_of order → IsErrAnd result (λ halt. halt ≡ halt_by_tangling err)
-    → Tangles job (going_on order (λ output. ends (number_of Finished))) (Err err) last u v → Tangling order result last u v
+    (last : Option FailedCall) (u v : World) → job ≡ job_of order
+    → IsErrAnd result (λ halt. halt ≡ halt_by_tangling err)
+    → Tangles job (going_on order (λ output. ends (number_of Finished))) (Err err) last u v
+    → Tangling order result last u v
 not_tangled order job err (Ok value) last u v is halt t = absurd halt
 not_tangled order job err (Err halt) last u v is same t =
     subst (λ (h : Halt). Tangling order (Err h) last u v) (sym same)
-    (by_error err (subst (λ (j : Job). Tangles j (going_on order (λ output. ends (number_of Finished))) (Err err) last u v)
+    (by_error err
+    (subst (λ (j : Job). Tangles j (going_on order (λ output. ends (number_of Finished))) (Err err) last u v)
     is t))
   where
     by_error : (err : TangleErr)
@@ -44,7 +47,8 @@ pub was_tangled : (order : Order) (job : Job) (made : Done) (last : Option Faile
 was_tangled order job made last u v is (output, (tells, reaches)) =
     subst (λ (j : Job). Reaches (tangling j (going_on order (λ output. ends (number_of Finished))))
     (telling_no_output made.no_output (ends (number_of Finished))) u v) is
-    (rest_is _ _ _ _ _ (ap (λ (b : Bool). telling_no_output b (ends (number_of Finished))) (sym tells.no_output)) reaches)
+    (rest_is _ _ _ _ _ (ap (λ (b : Bool). telling_no_output b (ends (number_of Finished))) (sym tells.no_output))
+    reaches)
 
 -- the work of `tangle`
 pub tangle_is : (command : Command) (order : Order) → command ≡ Tangle → command_work command order ≡ tangle_work order

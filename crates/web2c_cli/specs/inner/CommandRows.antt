@@ -178,7 +178,8 @@ pub empty_value_not_wanted : asked (codes "--strict=" ∷ codes "a" ∷ [])
 unfolding request_of parts_of
 empty_value_not_wanted = refl
 
-pub four_settings : asked (codes "--lowercase" ∷ codes "a" ∷ codes "--length=9" ∷ codes "--underline" ∷ codes "--loose" ∷ [])
+pub four_settings : asked
+    (codes "--lowercase" ∷ codes "a" ∷ codes "--length=9" ∷ codes "--underline" ∷ codes "--loose" ∷ [])
     ≡ given (Letters Lower ∷ Length 9 ∷ Underline ∷ Words Loose ∷ [])
 unfolding request_of parts_of
 four_settings = refl
