@@ -43,7 +43,8 @@ returns-clause-answers c =
     let number = place.level + 1 in
     let height : number ≡ length lower = omega arith in
     Answers-as (replaced place.steps (list_of tokens (level_of c.of_macro.result ∷ lower)))
-    (replaced place.steps (text_before (text_before (argument_of lower argument.environment) argument.text.now nothing) text
+    (replaced place.steps
+    (text_before (text_before (argument_of lower argument.environment) argument.text.now nothing) text
     (ends (list_of tokens lower)))) c.open.result c.open.new.self
     (ap (replaced place.steps)
     (sym (list_of-macro tokens text argument.text.now number argument.environment lower height)
