@@ -1,5 +1,6 @@
 -- The parts of tangling: what is left to do once the web is known, or its fault.
-use Rattle.std.proofs.Common.{◌≡◌, ◌≢◌, ◌∙◌, ℕ, List, [], ◌∷◌, ◌++◌, length, Option, Some, None, Result, Ok, Err, refl, sym, ap}
+use Rattle.std.proofs.Common.{◌≡◌, ◌≢◌, ◌∙◌, ℕ, List, [], ◌∷◌, ◌++◌, length, Option, Some, None, Result, Ok, Err, refl}
+use Rattle.std.proofs.Common.{sym, ap}
 use Rattle.std.proofs.Common.{subst, IsErrAnd, IfSome, OnErr, inl, inr, ◌⊎◌, codes, arith, length-append, ◌==◌, ◌+◌}
 use Rattle.wb_base.specs.declared.faults.Fault.{Fault as Flaw}
 use Rattle.wb_base.specs.declared.faults.WorkErr.{WorkErr}
@@ -46,7 +47,8 @@ handed T work on rest (Err other) err last u v is goes =
 -- memory that was not found before it is known what the web comes to
 pub wants_memory : (base : List ℕ) (on : Going_on) (outcome : Outcome) (w : World)
     → Stops (leaves_outcome base on outcome) by_memory w w
-wants_memory base on (refused fault) w = act_stopped (prints (on.report fault)) (on.at_fault fault) by_memory w w (now_same w)
+wants_memory base on (refused fault) w =
+    act_stopped (prints (on.report fault)) (on.at_fault fault) by_memory w w (now_same w)
 wants_memory base on (broken lines fault) w =
     act_stopped (leaves (pascal_name base) (text_of_lines lines)) (reporting on fault) by_memory w w (now_same w)
 wants_memory base on (done output) w =
@@ -198,7 +200,8 @@ pub pascal_stopped : (job : Job) (on : Going_on) (web : Scanned) (name : List �
     × (result ≡ Err OutOfMemory → WhereTold SameFiles a b)))
     → Reaches (tangling job on) (leaves_outcome job.base on (outcome (Ok web))) u (world_of a console ports)
     → Tangles job on (Err err) last u (world_of b console ports)
-pascal_stopped job on web name (Fault fault) last u a b console ports named is (written_is, (failed_is, same_is)) reaches =
+pascal_stopped job on web name (Fault fault) last u a b console ports named is (written_is, (failed_is, same_is))
+    reaches =
     pascal_broken job on web name fault last u a b console ports named is
     (written_is (λ e. absurd (cc)) (λ e. absurd (cc))) reaches
 pascal_stopped job on web name Failed last u a b console ports named is (written_is, (failed_is, same_is)) reaches =
@@ -210,7 +213,8 @@ pascal_stopped job on web name Failed last u a b console ports named is (written
     rest_is _ _ _ _ _ there reaches in
     next.stops (by_shelf last) (world_of b console ports)
     (left_failed name text first.0 last a b console ports (failed_is refl))
-pascal_stopped job on web name OutOfMemory last u a b console ports named is (written_is, (failed_is, same_is)) reaches =
+pascal_stopped job on web name OutOfMemory last u a b console ports named is (written_is, (failed_is, same_is))
+    reaches =
     let first = pascal_first web job.base on (tangled (expansion_of web)).lines (tangled (expansion_of web)).fault in
     let text : List ℕ = text_of_lines (tangled (expansion_of web)).lines in
     let there : leaves_outcome job.base on (outcome (Ok web)) ≡ does (leaves name text) first.0 =

@@ -1,7 +1,6 @@
 //! The tangle job.
-ghost use Rattle.std.specs.Prelude.{◌≡◌, ◌⊎◌, ◌↔◌, ℕ, [], ◌++◌, List, length, Option, Some, None, true, false, IfOk, IfSome};
-ghost use Rattle.std.specs.Prelude.{Ok, Err};
-ghost use Rattle.std.specs.Prelude.{OnOk, IsErrOf, codes};
+ghost use Rattle.std.specs.Prelude.{◌≡◌, ◌⊎◌, ◌↔◌, ℕ, [], ◌++◌, List, length, Option, Some, None, true, false};
+ghost use Rattle.std.specs.Prelude.{Ok, Err, IfOk, IfSome, OnOk, IsErrOf, codes};
 ghost use Rattle.wb_base.specs.WorkResult.{IfFault};
 ghost use Rattle.wb_ports.specs.Counts.{CountsFailure};
 ghost use Rattle.wb_ports.specs.Files.{Loads};

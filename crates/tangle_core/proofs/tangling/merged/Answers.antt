@@ -39,8 +39,9 @@ pub returns-in_err-merged_lines-clause-work : goal.returns-in_err-merged_lines-c
 returns-in_err-merged_lines-clause-work g c on console ports =
     let loads = rw c.bytes.ensures at c.in_ok-web.ensures.work in
     handed (List Line) _ on (after_lines c.args.job.now on) _ _ _ _ _ c.from_residual-in_err-merged_lines.ensures.1
-    (lines_refused (List Line) _ on (after_lines c.args.job.now on) c.args.job.now.base c.in_ok-web.web c.in_ok-change.change c.args.job.now.options
-    c.in_err-merged_lines.field-0.0 _ _ _ (rw (← c.bytes-2.ensures, ← c.bytes-3.ensures) c.in_err-merged_lines.ensures.fault)
+    (lines_refused (List Line) _ on (after_lines c.args.job.now on) c.args.job.now.base c.in_ok-web.web
+    c.in_ok-change.change c.args.job.now.options c.in_err-merged_lines.field-0.0 _ _ _
+    (rw (← c.bytes-2.ensures, ← c.bytes-3.ensures) c.in_err-merged_lines.ensures.fault)
     (reaches_then _ _ _ _ _ _
     (loads on (after_web c.args.job.now on) console ports)
     (c.in_ok-change.ensures.work on (after_change c.args.job.now on c.in_ok-web.web) console ports)))
