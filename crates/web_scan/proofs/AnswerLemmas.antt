@@ -4,11 +4,6 @@ use Rattle.std.specs.Prelude.{⊤}
 use Rattle.wb_base.specs.declared.faults.Fault.{Fault}
 use Rattle.wb_base.specs.Steps.{◌>>=◌}
 
--- the value is the one that is answered
-pub IfOk-itself : {A : Type 0} (answer : Result A Fault) → IfOk answer (λ value. answer ≡ Ok value)
-IfOk-itself (Ok value) = refl
-IfOk-itself (Err fault) = tt
-
 -- after a step and another one
 pub IfOk-step :
     {A B : Type 0} (P : A → Type 0) (Q : B → Type 0) (answer : Result A Fault) (step : A → Result B Fault)

@@ -8,7 +8,7 @@ use Rattle.web_lex.specs.declared.codes.Code.{Code}
 use Rattle.web_lex.specs.declared.codes.Code.TheVariants as code
 use Rattle.web_lex.specs.Reading.{Reading}
 use Rattle.web_scan.specs.Definitions.{definition}
-use Rattle.web_scan.specs.Limits.{section_begun}
+use Rattle.web_scan.specs.Refusals.{section_begun}
 use Rattle.web_scan.specs.Scanned.{Scanned, Scanning, place_of_last, code_found, most_tokens}
 use Rattle.web_scan.specs.Sections.{sections, section, section_parts, named_text, pascal_text}
 use Rattle.web_scan.proofs.ScannerLemmas.{scanning_with}

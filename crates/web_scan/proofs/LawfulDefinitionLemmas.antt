@@ -21,7 +21,7 @@ use Rattle.web_names.specs.Identifiers.{Name, defined, id_of, is_numeric}
 use Rattle.web_pool.specs.declared.refusals.PoolErr.{PoolErr}
 use Rattle.web_pool.specs.declared.refusals.PoolErr.TheVariants.{TooLong, Full, OutOfMemory}
 use Rattle.web_pool.specs.Strings.{numbered}
-use Rattle.web_scan.specs.Limits.{unless_refused, string_number}
+use Rattle.web_scan.specs.Refusals.{unless_refused, string_number}
 use Rattle.web_scan.specs.Scanned.{Scanned, Scanning, place_of_last, token_read, most_tokens}
 use Rattle.web_scan.specs.Texts.{string_value, ending_code, macro_text}
 use Rattle.web_scan.specs.Numeric.{Term, constant, TermsRead, with_sign, with_digit, with_constant, with_web}

@@ -15,7 +15,7 @@ use Rattle.web_lex.specs.declared.codes.Code.TheVariants as code
 use Rattle.web_lex.specs.Token.{Token}
 use Rattle.web_names.specs.declared.classes.Class.TheVariants as class
 use Rattle.web_scan.specs.declared.limits.TheConstants.{SECTION_LIMIT}
-use Rattle.web_scan.specs.Limits.{section_begun}
+use Rattle.web_scan.specs.Refusals.{section_begun}
 use Rattle.web_scan.specs.Scanned.{PascalText, Scanned, nothing_scanned, with_text_under, Scanning, scanning_of}
 use Rattle.web_scan.specs.Scanned.{place_of_last, token_read, code_found, most_tokens}
 use Rattle.web_scan.specs.Definitions.{is_sign, definition}

@@ -13,7 +13,7 @@ use Rattle.web_lex.specs.Reading.{next_name}
 use Rattle.web_names.specs.declared.classes.Class.{Class}
 use Rattle.web_names.specs.declared.classes.Class.TheVariants as class
 use Rattle.web_names.specs.SectionNames.{whole_name, prefix_name}
-use Rattle.web_scan.specs.Limits.{unless_refused, stored}
+use Rattle.web_scan.specs.Refusals.{unless_refused, stored}
 use Rattle.web_scan.specs.Scanned.{Scanned, Scanning, place_of_last, token_read}
 use Rattle.web_scan.specs.Texts.{TextRead, text_token}
 use Rattle.web_scan.specs.Sections.{name_found, name_read, section_used, section_text_from, section_text}

@@ -1,4 +1,3 @@
-<<<<<<< HEAD
 mod AnswerLemmas
 mod CodesLemmas
 mod DefinitionLemmas
@@ -26,9 +25,3 @@ mod StringsLemmas
 mod TextsLemmas
 mod UnderLemmas
 mod WordValueLemmas
-=======
-mod NamesLemmas
-mod PartsLemmas
-mod StringsLemmas
-mod UnderLemmas
->>>>>>> 52a4fcadd43bac3a879c9e34073f7e4973fd5acc

@@ -1,5 +1,4 @@
 -- How many names there are after a use or a definition, and that its id is one of them.
-<<<<<<< HEAD
 use Rattle.std.proofs.Common.{◌≡◌, ℕ, ℤ, Bool, true, false, not, if◌then◌else◌, zero, suc, ◌+◌, ◌<◌, ◌≤◌, List, []}
 use Rattle.std.proofs.Common.{◌∷◌, ◌++◌, length, Option, Some, None, Result, Ok, Err, refl, sym, ap, ◌∙◌, inl, inr}
 use Rattle.std.proofs.Common.{arith, length-append}
@@ -7,24 +6,13 @@ use Rattle.std.proofs.lemmas.Bool.{cases_lt}
 use Rattle.std.proofs.lemmas.List.Quantifiers.{position-Some}
 use Rattle.wb_base.specs.declared.options.Options.{Options}
 use Rattle.web_names.proofs.NameLemmas.{with_name-kept, with_name-full}
-=======
-use Rattle.std.proofs.Common.{◌≡◌, ℕ, ℤ, Bool, true, false, not, if◌then◌else◌, zero, suc, ◌+◌, ◌<◌, ◌≤◌, List, [], ◌∷◌, ◌++◌, length, Option, Some, None, Result, Ok, Err, refl, sym, ap, ◌∙◌, subst, inl, inr, arith, length-append}
-use Rattle.std.proofs.lemmas.Bool.{cases_lt}
-use Rattle.std.proofs.lemmas.List.Quantifiers.{position-Some}
-use Rattle.wb_base.specs.declared.options.Options.{Options}
-use Rattle.web_names.proofs.NameLemmas.{with_name-kept, with_name-full, used-held, used-new, defined-held, defined-new}
->>>>>>> 52a4fcadd43bac3a879c9e34073f7e4973fd5acc
 use Rattle.web_names.specs.declared.classes.Class.{Class}
 use Rattle.web_names.specs.declared.classes.Class.TheVariants as class
 use Rattle.web_names.specs.declared.name_errors.NameErr.{NameErr}
 use Rattle.web_names.specs.declared.name_errors.NameErr.TheVariants as refusal
-<<<<<<< HEAD
 use Rattle.web_names.specs.Identifiers.{Name, id_of, is_named, is_ordinary, is_numeric, is_in_conflict, class_of}
 use Rattle.web_names.specs.Identifiers.{new_name, with_name, used, used_at, defined, defined_at, defined_again}
 use Rattle.web_names.specs.Identifiers.{changed_at, with_class, with_value, name_limit}
-=======
-use Rattle.web_names.specs.Identifiers.{Name, Identifiers, id_of, is_named, is_ordinary, is_numeric, is_in_conflict, class_of, new_name, with_name, used, used_at, defined, defined_at, defined_again, changed_at, with_class, with_value, name_limit}
->>>>>>> 52a4fcadd43bac3a879c9e34073f7e4973fd5acc
 
 -- not more than there may be, and this id among them
 pub record IsAmong (id : ℕ) (names : List Name) : Type 0 where
@@ -35,12 +23,8 @@ pub record IsAmong (id : ℕ) (names : List Name) : Type 0 where
 same_answer : (a b : ℕ × List Name) (answer : Result (ℕ × List Name) NameErr) → answer ≡ Ok a → answer ≡ Ok b → a ≡ b
 same_answer a b answer is_a is_b = cc
 
-<<<<<<< HEAD
 pub among_with_name : (name : Name) (names : List Name) (id : ℕ) (after : List Name)
     → with_name name names ≡ Ok (id, after) → IsAmong id after
-=======
-pub among_with_name : (name : Name) (names : List Name) (id : ℕ) (after : List Name) → with_name name names ≡ Ok (id, after) → IsAmong id after
->>>>>>> 52a4fcadd43bac3a879c9e34073f7e4973fd5acc
 among_with_name name names id after is =
     elim (cases_lt (length names) name_limit) [
       | inl room ↦ (
@@ -85,19 +69,12 @@ pub among_used :
     (options : Options) (word : List ℕ) (names : List Name) (id : ℕ) (after : List Name)
     → length names ≤ name_limit → used options word names ≡ Ok (id, after) → IsAmong id after
 unfolding used
-<<<<<<< HEAD
 among_used options word names id after few is =
     among_used_at (id_of word names) options word names id after refl few is
 
 -- a change of one name
 pub length-changed_at : (id : ℕ) (change : Name → Name) (names : List Name)
     → length (changed_at id change names) ≡ length names
-=======
-among_used options word names id after few is = among_used_at (id_of word names) options word names id after refl few is
-
--- a change of one name
-pub length-changed_at : (id : ℕ) (change : Name → Name) (names : List Name) → length (changed_at id change names) ≡ length names
->>>>>>> 52a4fcadd43bac3a879c9e34073f7e4973fd5acc
 length-changed_at id change [] = refl
 length-changed_at zero change (name ∷ names) = refl
 length-changed_at (suc id) change (name ∷ names) = ap suc (length-changed_at id change names)
@@ -129,12 +106,8 @@ among_again :
     → place < length names → length names ≤ name_limit → defined_again place kind names ≡ Ok (id, after)
     → IsAmong id after
 among_again word kind names place id after within few is =
-<<<<<<< HEAD
     by_tests (not (is_ordinary (class_of place names))) (is_numeric kind) place
     (changed_at place (with_class kind) names) id after names
-=======
-    by_tests (not (is_ordinary (class_of place names))) (is_numeric kind) place (changed_at place (with_class kind) names) id after names
->>>>>>> 52a4fcadd43bac3a879c9e34073f7e4973fd5acc
     within few (length-changed_at place (with_class kind) names) is
 
 among_defined_at :
@@ -150,9 +123,5 @@ pub among_defined :
     (word : List ℕ) (kind : Class) (names : List Name) (id : ℕ) (after : List Name)
     → length names ≤ name_limit → defined word kind names ≡ Ok (id, after) → IsAmong id after
 unfolding defined
-<<<<<<< HEAD
 among_defined word kind names id after few is =
     among_defined_at (id_of word names) word kind names id after refl few is
-=======
-among_defined word kind names id after few is = among_defined_at (id_of word names) word kind names id after refl few is
->>>>>>> 52a4fcadd43bac3a879c9e34073f7e4973fd5acc

@@ -1,31 +1,19 @@
-<<<<<<< HEAD
 -- The parts of a web after one more token, and after the text of one more section.
 use Rattle.std.proofs.Common.{◌≡◌, ℕ, ◌+◌, ◌-◌, ◌≤◌, List, [], ◌∷◌, ◌++◌, length, take, drop, map, All, Vec, Some}
 use Rattle.std.proofs.Common.{refl, ap, ◌∙◌, arith, length-drop}
 use Rattle.std.proofs.lemmas.List.{drop-append-le, take-append-le, take_all}
-=======
--- Texts stay the same where more tokens are stored.
-use Rattle.std.proofs.Common.{◌≡◌, ℕ, zero, suc, ◌+◌, ◌<◌, ◌≤◌, List, [], ◌∷◌, ◌++◌, length, take, drop, map, All, Vec, refl, sym, ap, ◌∙◌, arith, length-append, length-drop}
-use Rattle.std.proofs.lemmas.List.{drop-append-le, take-append-le}
->>>>>>> 52a4fcadd43bac3a879c9e34073f7e4973fd5acc
 use Rattle.std.proofs.lemmas.List.Elements.{All-head, All-tail}
 use Rattle.wb_base.specs.declared.tokens.Tok.{Tok}
 use Rattle.std.specs.declared.alloc.Global.{Global}
 use Rattle.web_scan.specs.declared.parts.Parts.TheInside.{Inside}
 use Rattle.web_scan.specs.declared.pieces.Piece.{Piece}
 use Rattle.web_scan.specs.declared.pieces.Span.{Span}
-<<<<<<< HEAD
 use Rattle.web_scan.specs.Scanned.{PascalText, Scanned, with_text_under}
 use Rattle.web_scan.specs.Sections.{with_pascal_text}
 use Rattle.web_scan.specs.Pieces.{pascal_text_at, pascal_texts_at, IsPieceWithin}
 use Rattle.web_scan.specs.inner.Under.{pieces_in, with_piece_under}
 use Rattle.web_scan.proofs.UnderLemmas.{texts_in, texts_in-with_piece_under}
 use Rattle.web_scan.specs.inner.PartsView.{text_at, IsSpanWithin, scanned_in, IsKept}
-=======
-use Rattle.web_scan.specs.Scanned.{PascalText, Scanned}
-use Rattle.web_scan.specs.Pieces.{pascal_text_at, pascal_texts_at}
-use Rattle.web_scan.specs.inner.PartsView.{text_at, IsSpanWithin, IsPieceWithin, scanned_in, IsKept}
->>>>>>> 52a4fcadd43bac3a879c9e34073f7e4973fd5acc
 
 -- a range of a list with one more element
 pub range-push :
@@ -37,7 +25,6 @@ range-push first count xs x within =
     ap (take count) (drop-append-le first xs (x ∷ []) begins) ∙ take-append-le count (drop first xs) (x ∷ []) rest
 
 -- the texts of macros
-<<<<<<< HEAD
 pub texts-push : (spans : List Span) (tokens : List Tok) (token : Tok) → All (IsSpanWithin (length tokens)) spans
     → map (text_at (tokens ++ token ∷ [])) spans ≡ map (text_at tokens) spans
 texts-push [] tokens token within = refl
@@ -62,23 +49,6 @@ pascal_texts-push (piece ∷ pieces) tokens token within =
     (All-tail (IsPieceWithin (length tokens)) piece pieces within) in
     ap (λ text. text ∷ pascal_texts_at (tokens ++ token ∷ []) pieces) here
     ∙ ap (λ texts. pascal_text_at tokens piece ∷ texts) others
-=======
-pub texts-push : (spans : List Span) (tokens : List Tok) (token : Tok) → All (IsSpanWithin (length tokens)) spans → map (text_at (tokens ++ token ∷ [])) spans ≡ map (text_at tokens) spans
-texts-push [] tokens token within = refl
-texts-push (span ∷ spans) tokens token within =
-    let here : text_at (tokens ++ token ∷ []) span ≡ text_at tokens span = range-push span.first span.count tokens token (All-head (IsSpanWithin (length tokens)) span spans within) in
-    let others = texts-push spans tokens token (All-tail (IsSpanWithin (length tokens)) span spans within) in
-    ap (λ text. text ∷ map (text_at (tokens ++ token ∷ [])) spans) here ∙ ap (λ texts. text_at tokens span ∷ texts) others
-
--- the texts of sections
-pub pascal_texts-push : (pieces : List Piece) (tokens : List Tok) (token : Tok) → All (IsPieceWithin (length tokens)) pieces → pascal_texts_at (tokens ++ token ∷ []) pieces ≡ pascal_texts_at tokens pieces
-pascal_texts-push [] tokens token within = refl
-pascal_texts-push (piece ∷ pieces) tokens token within =
-    let text = range-push piece.first piece.count tokens token (All-head (IsPieceWithin (length tokens)) piece pieces within) in
-    let here : pascal_text_at (tokens ++ token ∷ []) piece ≡ pascal_text_at tokens piece = ap (λ (text : List Tok). let made : PascalText = record { number = piece.number; text = text } in made) text in
-    let others = pascal_texts-push pieces tokens token (All-tail (IsPieceWithin (length tokens)) piece pieces within) in
-    ap (λ text. text ∷ pascal_texts_at (tokens ++ token ∷ []) pieces) here ∙ ap (λ texts. pascal_text_at tokens piece ∷ texts) others
->>>>>>> 52a4fcadd43bac3a879c9e34073f7e4973fd5acc
 
 -- the texts under names of sections
 pub named-push :
@@ -110,15 +80,10 @@ with_texts parts tokens texts unnamed named = record {
 
 -- the parts of a web with one more token
 pub scanned_in-push :
-<<<<<<< HEAD
     (parts : Inside) (more : Vec Tok Global) (token : Tok) → IsKept parts
     → more.items ≡ parts.tokens.items ++ token ∷ []
     → scanned_in (record parts { tokens = more }) ≡ record
     (scanned_in parts) { tokens = parts.tokens.items ++ token ∷ [] }
-=======
-    (parts : Inside) (more : Vec Tok Global) (token : Tok) → IsKept parts → more.items ≡ parts.tokens.items ++ token ∷ []
-    → scanned_in (record parts { tokens = more }) ≡ record (scanned_in parts) { tokens = parts.tokens.items ++ token ∷ [] }
->>>>>>> 52a4fcadd43bac3a879c9e34073f7e4973fd5acc
 unfolding with_texts
 scanned_in-push parts more token kept is =
     let old = parts.tokens.items in
@@ -133,7 +98,6 @@ scanned_in-push parts more token kept is =
     ≡ map (λ pieces. pascal_texts_at old pieces.items) parts.named.items =
     ap (λ tokens. map (λ pieces. pascal_texts_at tokens pieces.items) parts.named.items) is
     ∙ named-push parts.named.items old token kept.named in
-<<<<<<< HEAD
     ap (λ tokens. with_texts parts tokens (map (text_at more.items) parts.texts.items)
     (pascal_texts_at more.items parts.unnamed.items)
     (map (λ pieces. pascal_texts_at more.items pieces.items) parts.named.items)) is
@@ -168,9 +132,3 @@ scanned_in-under parts new name first count web is all more =
     ap under (texts_in-with_piece_under name _ tokens parts.named.items new.items more)
     ∙ ap (λ text. under (with_text_under name text (texts_in tokens parts.named.items))) text
     ∙ ap (λ (web : Scanned). with_pascal_text (Some name) (drop first web.tokens) web) is
-=======
-    ap (λ tokens. with_texts parts tokens (map (text_at more.items) parts.texts.items) (pascal_texts_at more.items parts.unnamed.items) (map (λ pieces. pascal_texts_at more.items pieces.items) parts.named.items)) is
-    ∙ ap (λ texts. with_texts parts new texts (pascal_texts_at more.items parts.unnamed.items) (map (λ pieces. pascal_texts_at more.items pieces.items) parts.named.items)) texts
-    ∙ ap (λ texts. with_texts parts new (map (text_at old) parts.texts.items) texts (map (λ pieces. pascal_texts_at more.items pieces.items) parts.named.items)) unnamed
-    ∙ ap (with_texts parts new (map (text_at old) parts.texts.items) (pascal_texts_at old parts.unnamed.items)) named
->>>>>>> 52a4fcadd43bac3a879c9e34073f7e4973fd5acc

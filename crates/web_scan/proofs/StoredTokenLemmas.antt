@@ -20,7 +20,7 @@ use Rattle.web_pool.specs.declared.refusals.PoolErr.{PoolErr}
 use Rattle.web_pool.specs.declared.refusals.PoolErr.TheVariants.{TooLong, Full, OutOfMemory}
 use Rattle.web_pool.specs.Strings.{numbered}
 use Rattle.web_scan.specs.declared.limits.TheConstants.{TOKEN_LIMIT}
-use Rattle.web_scan.specs.Limits.{unless_refused, with_room, stored, string_stored}
+use Rattle.web_scan.specs.Refusals.{unless_refused, with_room, stored, string_stored}
 use Rattle.web_scan.specs.Scanned.{Scanned}
 use Rattle.web_scan.specs.Texts.{undoubled, quoted_text, string_value, word_stored, quoted_stored, sign_token}
 use Rattle.web_scan.specs.Texts.{token_stored, is_closing}

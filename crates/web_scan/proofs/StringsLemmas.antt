@@ -1,5 +1,4 @@
 -- Doubled bytes, a byte at a time.
-<<<<<<< HEAD
 use Rattle.std.proofs.Common.{◌≡◌, ℕ, zero, suc, ◌+◌, ◌<◌, ◌⊎◌, true, false, List, [], ◌∷◌, ◌++◌, length, get_or, drop}
 use Rattle.std.proofs.Common.{refl, sym, ap, ◌∙◌, inl, inr, arith, drop-cons, append_assoc}
 use Rattle.web_scan.specs.Texts.{undoubled}
@@ -12,17 +11,6 @@ undoubled-single doubled byte (next ∷ bytes) single = rw single refl
 
 undoubled-double : (doubled : List ℕ) (byte : ℕ) (rest : List ℕ) → begins_doubled doubled (byte ∷ rest) ≡ true
     → undoubled doubled (byte ∷ rest) ≡ byte ∷ undoubled doubled (drop 1 rest)
-=======
-use Rattle.std.proofs.Common.{◌≡◌, ℕ, zero, suc, ◌+◌, ◌<◌, ◌≤◌, ◌⊎◌, Bool, true, false, List, [], ◌∷◌, ◌++◌, length, get_or, drop, refl, sym, ap, ◌∙◌, subst, inl, inr, arith, drop-cons, append_assoc}
-use Rattle.web_scan.specs.Texts.{undoubled}
-use Rattle.web_scan.specs.inner.Doubled.{begins_doubled}
-
-undoubled-single : (doubled : List ℕ) (byte : ℕ) (rest : List ℕ) → begins_doubled doubled (byte ∷ rest) ≡ false → undoubled doubled (byte ∷ rest) ≡ byte ∷ undoubled doubled rest
-undoubled-single doubled byte [] single = refl
-undoubled-single doubled byte (next ∷ bytes) single = rw single refl
-
-undoubled-double : (doubled : List ℕ) (byte : ℕ) (rest : List ℕ) → begins_doubled doubled (byte ∷ rest) ≡ true → undoubled doubled (byte ∷ rest) ≡ byte ∷ undoubled doubled (drop 1 rest)
->>>>>>> 52a4fcadd43bac3a879c9e34073f7e4973fd5acc
 undoubled-double doubled byte [] double = absurd cc
 undoubled-double doubled byte (next ∷ bytes) double = rw double refl
 
@@ -32,24 +20,16 @@ drop-suc (suc i) [] = refl
 drop-suc (suc i) (byte ∷ bytes) = drop-suc i bytes
 
 at_step : (doubled bytes : List ℕ) (i step : ℕ) → i < length bytes
-<<<<<<< HEAD
     → ((begins_doubled doubled (drop i bytes) ≡ true) × (step ≡ 2)) ⊎
     ((begins_doubled doubled (drop i bytes) ≡ false) × (step ≡ 1))
-=======
-    → ((begins_doubled doubled (drop i bytes) ≡ true) × (step ≡ 2)) ⊎ ((begins_doubled doubled (drop i bytes) ≡ false) × (step ≡ 1))
->>>>>>> 52a4fcadd43bac3a879c9e34073f7e4973fd5acc
     → undoubled doubled (drop i bytes) ≡ get_or bytes i 0 ∷ undoubled doubled (drop (i + step) bytes)
 at_step doubled bytes i step within (inl double) =
     let cut = drop-cons bytes i 0 within in
     let begins = ap (begins_doubled doubled) (sym cut) ∙ double.0 in
     let here : i + step ≡ suc (suc i) = omega (arith, double.1) in
     ap (undoubled doubled) cut ∙ undoubled-double doubled (get_or bytes i 0) (drop (suc i) bytes) begins
-<<<<<<< HEAD
     ∙ ap (λ rest. get_or bytes i 0 ∷ undoubled doubled rest) (drop-suc (suc i) bytes
     ∙ ap (λ at. drop at bytes) (sym here))
-=======
-    ∙ ap (λ rest. get_or bytes i 0 ∷ undoubled doubled rest) (drop-suc (suc i) bytes ∙ ap (λ at. drop at bytes) (sym here))
->>>>>>> 52a4fcadd43bac3a879c9e34073f7e4973fd5acc
 at_step doubled bytes i step within (inr single) =
     let cut = drop-cons bytes i 0 within in
     let begins = ap (begins_doubled doubled) (sym cut) ∙ single.0 in
@@ -60,12 +40,8 @@ at_step doubled bytes i step within (inr single) =
 -- one more byte was added, and the next is one or two bytes on
 pub undoubled-pushed : (start text more doubled bytes : List ℕ) (i step : ℕ) → i < length bytes
     → more ≡ text ++ get_or bytes i 0 ∷ [] → start ≡ text ++ undoubled doubled (drop i bytes)
-<<<<<<< HEAD
     → ((begins_doubled doubled (drop i bytes) ≡ true) × (step ≡ 2)) ⊎
     ((begins_doubled doubled (drop i bytes) ≡ false) × (step ≡ 1))
-=======
-    → ((begins_doubled doubled (drop i bytes) ≡ true) × (step ≡ 2)) ⊎ ((begins_doubled doubled (drop i bytes) ≡ false) × (step ≡ 1))
->>>>>>> 52a4fcadd43bac3a879c9e34073f7e4973fd5acc
     → start ≡ more ++ undoubled doubled (drop (i + step) bytes)
 undoubled-pushed start text more doubled bytes i step within pushed before by =
     let rest = undoubled doubled (drop (i + step) bytes) in

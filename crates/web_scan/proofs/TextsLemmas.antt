@@ -19,7 +19,7 @@ use Rattle.web_lex.specs.Token.{Token, end_of_input}
 use Rattle.web_scan.proofs.StepsLemmas.{StillReads, scanning_stops, scanning_more, same_rest}
 use Rattle.web_names.specs.declared.classes.Class.{Class}
 use Rattle.web_scan.specs.declared.limits.TheConstants.{TOKEN_LIMIT}
-use Rattle.web_scan.specs.Limits.{stored}
+use Rattle.web_scan.specs.Refusals.{stored}
 use Rattle.web_scan.specs.Scanned.{Scanned, Scanning, token_read, most_tokens}
 use Rattle.web_scan.specs.Texts.{opened_after, still_open, stored_since, text_token, ended_text, ending_code}
 use Rattle.web_scan.specs.Texts.{TextRead, macro_text, macro_text_from}

@@ -1,5 +1,4 @@
 -- Ranges under names, and the texts that they stand for.
-<<<<<<< HEAD
 use Rattle.std.proofs.Common.{◌≡◌, ℕ, zero, suc, ◌<◌, ◌≤◌, List, [], ◌∷◌, ◌++◌, length, get_or, map, set, All, Vec}
 use Rattle.std.proofs.Common.{Some, None, slice_get, refl, sym, ap, ◌∙◌, arith}
 use Rattle.std.proofs.lemmas.List.{map-append}
@@ -10,16 +9,6 @@ use Rattle.web_scan.specs.declared.pieces.Piece.{Piece}
 use Rattle.web_scan.specs.Scanned.{PascalText, texts_under, with_text_under}
 use Rattle.web_scan.specs.Pieces.{pascal_text_at, pascal_texts_at, IsPieceWithin}
 use Rattle.web_scan.specs.inner.Under.{pieces_in, with_piece_under, AreWithin}
-=======
-use Rattle.std.proofs.Common.{◌≡◌, ℕ, zero, suc, ◌+◌, ◌<◌, ◌≤◌, List, [], ◌∷◌, ◌++◌, length, get_or, map, set, Vec, refl, sym, ap, ◌∙◌, arith}
-use Rattle.std.proofs.lemmas.List.{map-append}
-use Rattle.std.specs.declared.alloc.Global.{Global}
-use Rattle.wb_base.specs.declared.tokens.Tok.{Tok}
-use Rattle.web_scan.specs.declared.pieces.Piece.{Piece}
-use Rattle.web_scan.specs.Scanned.{PascalText, with_text_under}
-use Rattle.web_scan.specs.Pieces.{pascal_text_at, pascal_texts_at}
-use Rattle.web_scan.specs.inner.Under.{pieces_in, with_piece_under}
->>>>>>> 52a4fcadd43bac3a879c9e34073f7e4973fd5acc
 
 -- one more name without texts at the end
 pub with_piece_under-padded :
@@ -44,7 +33,6 @@ texts-with_piece_under zero piece tokens (pieces ∷ named) =
 texts-with_piece_under (suc name) piece tokens (pieces ∷ named) =
     ap (λ others. pascal_texts_at tokens pieces ∷ others) (texts-with_piece_under name piece tokens named)
 
-<<<<<<< HEAD
 -- one more name without texts at the end keeps ranges within the tokens
 pub AreWithin-padded :
     (size : ℕ) (named more : List (Vec Piece Global)) (pieces : Vec Piece Global)
@@ -55,8 +43,6 @@ AreWithin-padded size named more pieces pushed empty within =
     All-same (IsPieceWithin size) pieces.items [] empty (All-nil (IsPieceWithin size)) in
     All-same P more (named ++ pieces ∷ []) pushed (All-push P named pieces within here)
 
-=======
->>>>>>> 52a4fcadd43bac3a879c9e34073f7e4973fd5acc
 -- one more range in the list under a name
 pub pieces_in-set :
     (name : ℕ) (piece : Piece) (named : List (Vec Piece Global)) (old new : Vec Piece Global)
@@ -68,7 +54,6 @@ pieces_in-set zero piece (pieces ∷ named) old new within there pushed =
     (pushed ∙ ap (λ (pieces : Vec Piece Global). pieces.items ++ piece ∷ []) there)
 pieces_in-set (suc name) piece (pieces ∷ named) old new within there pushed =
     ap (λ others. pieces.items ∷ others) (pieces_in-set name piece named old new (omega arith) there pushed)
-<<<<<<< HEAD
 
 -- the texts of the ranges under each name
 abbrev pub texts_in : List Tok → List (Vec Piece Global) → List (List PascalText)
@@ -110,5 +95,3 @@ texts_in-with_piece_under name piece tokens old new more =
     texts_in-pieces_in tokens new ∙ ap (map (pascal_texts_at tokens)) more
     ∙ texts-with_piece_under name piece tokens (pieces_in old)
     ∙ ap (with_text_under name (pascal_text_at tokens piece)) (sym (texts_in-pieces_in tokens old))
-=======
->>>>>>> 52a4fcadd43bac3a879c9e34073f7e4973fd5acc

@@ -12,7 +12,7 @@ use Rattle.web_lex.specs.Token.{Token, word, sign, joined}
 use Rattle.web_names.specs.declared.classes.Class.{Class}
 use Rattle.web_names.specs.declared.classes.Class.TheVariants as class
 use Rattle.web_names.specs.Identifiers.{defined, with_value}
-use Rattle.web_scan.specs.Limits.{unless_refused}
+use Rattle.web_scan.specs.Refusals.{unless_refused}
 use Rattle.web_scan.specs.Numeric.{right_side, value_of}
 use Rattle.web_scan.specs.Scanned.{Scanned, Scanning, place_of_last, token_read, most_tokens}
 use Rattle.web_scan.specs.Texts.{macro_text}
@@ -77,8 +77,7 @@ abbrev pub value_given : ℕ → ℤ → Scanned → Scanned
 value_given id value web =
     record web { names = record web.names { names = with_value id value web.names.names } }
 
--- the right side of the macro with this id and class, whose name stands at this place: a numeric macro gets its
--- value,
+-- the right side of the macro with this id and class, whose name stands at this place: a numeric macro gets its value,
 -- the others the number of their text. The code that ends it, and the web after that
 abbrev pub right_side_read : Place → ℕ → Class → Scanning → Result (Code × Scanning) Fault
 right_side_read at_name id class.Numeric scanning = do

@@ -1,6 +1,7 @@
 -- What holds of every scanned web, so that its expansion need not look: numbers of tokens are places in the web,
 -- values are small, and parentheses balance.
-use Rattle.std.specs.Prelude.{ℕ, ℤ, pos, nat_abs, ◌≡◌, ◌≢◌, ◌+◌, ◌-◌, ◌<◌, ◌≤ℤ◌, ◌==◌, ◌&&◌, nat_lt, Bool, if◌then◌else◌}
+use Rattle.std.specs.Prelude.{ℕ, ℤ, pos, nat_abs, ◌≡◌, ◌≢◌, ◌+◌, ◌-◌, ◌<◌, ◌≤ℤ◌, ◌==◌, ◌&&◌, nat_lt, Bool}
+use Rattle.std.specs.Prelude.{if◌then◌else◌}
 use Rattle.std.specs.Prelude.{List, [], ◌∷◌, length, slice_get, All, IsTrue, IsSome, IsSomeAnd, ⊤}
 use Rattle.std.specs.Char.{is_ascii_digit}
 use Rattle.wb_base.specs.declared.tokens.Tok.{Tok}
@@ -8,10 +9,6 @@ use Rattle.wb_base.specs.declared.tokens.Tok.TheVariants as tok
 use Rattle.web_lex.specs.Token.{greatest_value}
 use Rattle.web_names.specs.declared.classes.Class.{Class}
 use Rattle.web_names.specs.declared.classes.Class.TheVariants as class
-<<<<<<< HEAD
-=======
-use Rattle.web_names.specs.Identifiers.{Name}
->>>>>>> 52a4fcadd43bac3a879c9e34073f7e4973fd5acc
 use Rattle.web_scan.specs.Numeric.{value_limit}
 use Rattle.web_scan.specs.Scanned.{PascalText, Scanned}
 
@@ -51,7 +48,8 @@ pub record IsPascalTextOf (web : Scanned) (piece : PascalText) : Type 0 where
 abbrev pub IsValueOf : Scanned → Class → ℤ → Type 0
 IsValueOf web class.Ordinary value = ⊤
 IsValueOf web class.Numeric value = nat_abs value < value_limit
-IsValueOf web class.Simple value = (number : ℕ) × (value ≡ pos number) × IsSomeAnd (slice_get web.texts number) HasNoParameter
+IsValueOf web class.Simple value =
+    (number : ℕ) × (value ≡ pos number) × IsSomeAnd (slice_get web.texts number) HasNoParameter
 IsValueOf web class.Parametric value = (number : ℕ) × (value ≡ pos number) × IsSome (slice_get web.texts number)
 
 -- what holds of a scanned web

@@ -2,9 +2,9 @@ pub use Rattle.wb_base.specs.FaultAt
 pub use Rattle.wb_base.specs.WorkResult
 pub mod Definitions
 pub mod Lawful
-pub mod Limits
 pub mod Numeric
 pub mod Pieces
+pub mod Refusals
 pub mod Scan
 pub mod Scanned
 pub mod Sections

@@ -12,7 +12,7 @@ use Rattle.web_lex.specs.declared.codes.Code.TheVariants as code
 use Rattle.web_lex.specs.Token.{Token, digit, word, based, sign, pool, greatest_value}
 use Rattle.web_names.specs.Identifiers.{Name, id_of, is_numeric}
 use Rattle.web_pool.specs.Strings.{numbered}
-use Rattle.web_scan.specs.Limits.{string_number}
+use Rattle.web_scan.specs.Refusals.{string_number}
 use Rattle.web_scan.specs.Scanned.{Scanned, Scanning, place_of_last, token_read}
 use Rattle.web_scan.specs.Texts.{string_value, ending_code}
 

@@ -1,9 +1,5 @@
 -- What the pieces of a web stand for.
-<<<<<<< HEAD
 use Rattle.std.specs.Prelude.{ℕ, ℤ, ◌+◌, ◌≤◌, List, map, take, drop, slice_get, nat_abs, Option, Some, None, IsSome}
-=======
-use Rattle.std.specs.Prelude.{ℕ, ℤ, List, map, take, drop, slice_get, nat_abs, Option, Some, None, IsSome}
->>>>>>> 52a4fcadd43bac3a879c9e34073f7e4973fd5acc
 use Rattle.wb_base.specs.declared.tokens.Tok.{Tok}
 use Rattle.web_scan.specs.declared.pieces.Piece.{Piece}
 use Rattle.web_names.specs.declared.classes.Class.{Class}
@@ -16,13 +12,10 @@ abbrev pub pascal_text_at : List Tok → Piece → PascalText
 pascal_text_at tokens piece =
     record { number = piece.number; text = take piece.count (drop piece.first tokens) }
 
-<<<<<<< HEAD
 -- the range lies within so many stored tokens
 abbrev pub IsPieceWithin : ℕ → Piece → Type 0
 IsPieceWithin size piece = piece.first + piece.count ≤ size
 
-=======
->>>>>>> 52a4fcadd43bac3a879c9e34073f7e4973fd5acc
 -- Pascal texts
 abbrev pub pascal_texts_at : List Tok → List Piece → List PascalText
 pascal_texts_at tokens pieces = map (pascal_text_at tokens) pieces

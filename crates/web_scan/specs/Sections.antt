@@ -16,8 +16,9 @@ use Rattle.web_lex.specs.Reading.{next_name}
 use Rattle.web_names.specs.declared.classes.Class.TheVariants as class
 use Rattle.web_names.specs.SectionNames.{whole_name, prefix_name}
 use Rattle.web_scan.specs.Definitions.{is_sign, is_same, definition}
-use Rattle.web_scan.specs.Limits.{unless_refused, stored, section_begun}
-use Rattle.web_scan.specs.Scanned.{Scanned, Scanning, with_text_under, place_of_last, token_read, code_found, most_tokens}
+use Rattle.web_scan.specs.Refusals.{unless_refused, stored, section_begun}
+use Rattle.web_scan.specs.Scanned.{Scanned, Scanning, with_text_under, place_of_last, token_read, code_found}
+use Rattle.web_scan.specs.Scanned.{most_tokens}
 use Rattle.web_scan.specs.Texts.{TextRead, ended_text, text_token}
 
 -- a prefix stands for a name that was seen before it; a whole name is seen now. The place of the name, and the web
@@ -45,8 +46,8 @@ section_used scanning = do
   Ok (record named { web = web })
 
 -- a section's text from a token on: a section start or the end of the input ends it; a definition, a format or `@p`
--- may
--- not stand in it; the name of a section and all else is one more of its tokens, and then comes what is read further
+-- may not stand in it; the name of a section and all else is one more of its tokens, and then comes what is read
+-- further
 abbrev pub section_text_from : ℕ → Token → Scanning → (Scanning → TextRead) → TextRead
 section_text_from first end_of_input scanning further =
     ended_text first scanning >>= (λ text. Ok (text, code.End, scanning))
@@ -75,8 +76,7 @@ with_pascal_text (Some name) text web =
     record web { named = with_text_under name (record { number = web.count; text = text }) web.named }
 
 -- the Pascal text of a section, which stands under this name, or belongs to the unnamed section; the code that ends
--- it,
--- and the web after that
+-- it, and the web after that
 unfoldable pub pascal_text : Option ℕ → Scanning → Result (Code × Scanning) Fault
 pascal_text name scanning = do
   (text, code, after) ← section_text (most_tokens scanning) (length scanning.web.tokens) scanning

@@ -17,7 +17,7 @@ use Rattle.web_names.specs.declared.classes.Class.{Class}
 use Rattle.web_names.specs.declared.classes.Class.TheVariants as class
 use Rattle.web_names.specs.Identifiers.{folded, used}
 use Rattle.web_pool.specs.Strings.{numbered}
-use Rattle.web_scan.specs.Limits.{unless_refused, stored, string_stored}
+use Rattle.web_scan.specs.Refusals.{unless_refused, stored, string_stored}
 use Rattle.web_scan.specs.Scanned.{Scanned, Scanning, place_of_last, token_read}
 
 -- a text with one byte in place of each doubled one of these

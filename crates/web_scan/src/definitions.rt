@@ -1,5 +1,4 @@
 //! The definitions of macros.
-<<<<<<< HEAD
 ghost use Rattle.std.specs.Prelude.{◌≡◌, ◌≢◌, ◌<◌, ◌≤◌, length, Ok, Err, IfOk, OnOk};
 ghost use Rattle.wb_base.specs.WorkResult.{IfFault};
 ghost use Rattle.wb_base.specs.FaultAt.{fault_at};
@@ -8,14 +7,6 @@ ghost use Rattle.web_lex.specs.Token.{token_of};
 ghost use Rattle.web_scan.specs.Scanned.{place_of_last};
 ghost use Rattle.web_scan.specs.Definitions.{definition, class_read, parameter_read, expected, is_sign, is_same};
 ghost use Rattle.web_scan.specs.Definitions.{right_side_read};
-=======
-ghost use Rattle.std.specs.Prelude.{◌≡◌, ◌≢◌, ◌<◌, length, Ok, Err, IfOk, OnOk};
-ghost use Rattle.wb_base.specs.WorkResult.{IfFault};
-ghost use Rattle.wb_base.specs.FaultAt.{fault_at};
-ghost use Rattle.wb_base.specs.declared.faults.WorkErr.TheVariants.{Fault as of_input};
-ghost use Rattle.web_scan.specs.Scanned.{place_of_last};
-ghost use Rattle.web_scan.specs.Definitions.{definition, class_read, parameter_read, expected, is_sign, right_side_read};
->>>>>>> 52a4fcadd43bac3a879c9e34073f7e4973fd5acc
 
 use crate::scanner::Scanner;
 use wb_base::faults::BAD_DEFINITION;
@@ -23,7 +14,6 @@ use wb_base::{Fault, Joined, Place, WorkErr};
 use web_lex::{Code, Lexed};
 use web_names::Class;
 
-<<<<<<< HEAD
 // Whether a token is this sign.
 pub(crate) fn is_sign(byte: u8, token: Lexed<'_>) -> bool
     ensures { result ≡ is_sign byte (token_of token.entry) }
@@ -38,17 +28,12 @@ pub(crate) fn is_same(token: Lexed<'_>) -> bool
     matches!(token, Lexed::Joined(Joined::Same))
 }
 
-=======
->>>>>>> 52a4fcadd43bac3a879c9e34073f7e4973fd5acc
 impl<'l> Scanner<'l> {
     // Reads a definition after its `@d`, and answers the code that ends it.
     pub(crate) fn definition(&mut self) -> Result<Code, WorkErr>
         ensures ok { IfOk result (λ code. definition self.old ≡ Ok (code, self.new)) }
         ensures fault { IfFault result (λ fault. definition self.old ≡ Err fault) }
-<<<<<<< HEAD
         ensures shorter { OnOk result (length self.new.reading.rest < length self.old.reading.rest) }
-=======
->>>>>>> 52a4fcadd43bac3a879c9e34073f7e4973fd5acc
     {
         let Lexed::Word(word) = self.token()? else {
             return Err(self.bad_definition());
@@ -72,10 +57,7 @@ impl<'l> Scanner<'l> {
         ensures ok { IfOk result (λ class. class_read self.old ≡ Ok (class, self.new)) }
         ensures fault { IfFault result (λ fault. class_read self.old ≡ Err fault) }
         ensures class { IfOk result (λ class. class ≢ Class.Ordinary) }
-<<<<<<< HEAD
         ensures not_longer { OnOk result (length self.new.reading.rest ≤ length self.old.reading.rest) }
-=======
->>>>>>> 52a4fcadd43bac3a879c9e34073f7e4973fd5acc
     {
         match self.token()? {
             Lexed::Sign(b'=') => Ok(Class::Numeric),
@@ -92,7 +74,6 @@ impl<'l> Scanner<'l> {
     fn parameter(&mut self) -> Result<(), WorkErr>
         ensures ok { OnOk result (parameter_read self.old ≡ Ok (Class.Parametric, self.new)) }
         ensures fault { IfFault result (λ fault. parameter_read self.old ≡ Err fault) }
-<<<<<<< HEAD
         ensures not_longer { OnOk result (length self.new.reading.rest ≤ length self.old.reading.rest) }
     {
         self.expect_sign(b'#')?;
@@ -101,14 +82,6 @@ impl<'l> Scanner<'l> {
             Ok(())
         } else {
             Err(self.bad_definition())
-=======
-    {
-        self.expect_sign(b'#')?;
-        self.expect_sign(b')')?;
-        match self.token()? {
-            Lexed::Joined(Joined::Same) => Ok(()),
-            _ => Err(self.bad_definition()),
->>>>>>> 52a4fcadd43bac3a879c9e34073f7e4973fd5acc
         }
     }
 
@@ -116,19 +89,12 @@ impl<'l> Scanner<'l> {
     fn expect_sign(&mut self, wanted: u8) -> Result<(), WorkErr>
         ensures ok { OnOk result (expected BAD_DEFINITION (is_sign wanted) self.old ≡ Ok self.new) }
         ensures fault { IfFault result (λ fault. expected BAD_DEFINITION (is_sign wanted) self.old ≡ Err fault) }
-<<<<<<< HEAD
         ensures not_longer { OnOk result (length self.new.reading.rest ≤ length self.old.reading.rest) }
     {
         if is_sign(wanted, self.token()?) {
             Ok(())
         } else {
             Err(self.bad_definition())
-=======
-    {
-        match self.token()? {
-            Lexed::Sign(byte) if byte == wanted => Ok(()),
-            _ => Err(self.bad_definition()),
->>>>>>> 52a4fcadd43bac3a879c9e34073f7e4973fd5acc
         }
     }
 
@@ -139,10 +105,7 @@ impl<'l> Scanner<'l> {
         requires class { class ≢ Class.Ordinary }
         ensures ok { IfOk result (λ code. right_side_read at_name id class self.old ≡ Ok (code, self.new)) }
         ensures fault { IfFault result (λ fault. right_side_read at_name id class self.old ≡ Err fault) }
-<<<<<<< HEAD
         ensures not_longer { OnOk result (length self.new.reading.rest ≤ length self.old.reading.rest) }
-=======
->>>>>>> 52a4fcadd43bac3a879c9e34073f7e4973fd5acc
     {
         if class == Class::Numeric {
             return self.numeric_side(at_name, id);

@@ -1,5 +1,4 @@
 //! The right sides of numeric definitions, and their values.
-<<<<<<< HEAD
 ghost use Rattle.std.specs.Prelude.{◌≡◌, false, ◌<◌, ◌≤◌, ◌+ℤ◌, ◌*ℤ◌, ◌∷◌, [], ℕ, List, length, None, Ok, Err, IfOk};
 ghost use Rattle.std.specs.Prelude.{IfErr, OnOk, IsOkAnd};
 ghost use Rattle.wb_base.specs.WorkResult.{IfFault};
@@ -8,8 +7,6 @@ ghost use Rattle.web_scan.specs.Scanned.{place_of_last};
 ghost use Rattle.web_scan.specs.Numeric.{Term, constant, value_of, with_digit, with_sign, with_token, right_side};
 ghost use Rattle.web_scan.specs.Definitions.{right_side_read};
 ghost use Rattle.web_scan.specs.inner.StandsFor.{sign_of, IsTotalOf, StandsFor, AddedTo, ReadTo};
-=======
->>>>>>> 52a4fcadd43bac3a879c9e34073f7e4973fd5acc
 
 use crate::scanner::Scanner;
 use crate::strings::string_value;
@@ -17,7 +14,6 @@ use crate::texts::ending_code;
 use wb_base::faults::{BAD_NUMERIC_DEFINITION, VALUE_TOO_BIG};
 use wb_base::{Fault, OutOfMemory, Place, WorkErr};
 use web_lex::{Code, Lexed};
-<<<<<<< HEAD
 use web_names::Class;
 
 // The greatest value of a constant.
@@ -33,77 +29,42 @@ struct Sum {
     total: i64,
     negated: bool,
     number: Option<u32>,
-=======
-
-// The greatest value of a constant.
-const GREATEST_VALUE: i64 = 2_147_483_647;
-
-// The absolute value that a numeric macro's must be below. This project's own.
-const VALUE_LIMIT: i64 = 32_768;
-
-// A right side that is read: the sum of its constants but for the number that its last digits make, if it ends in one,
-// and the product of the signs since the constant before.
-#[derive(Drop)]
-struct Sum {
-    total: i64,
-    sign: i64,
-    number: Option<i64>,
->>>>>>> 52a4fcadd43bac3a879c9e34073f7e4973fd5acc
 }
 
 impl Sum {
     // No constants and no signs.
-<<<<<<< HEAD
     fn new() -> Sum
         ensures { StandsFor result [] }
     {
         Sum {
             total: 0,
             negated: false,
-=======
-    fn new() -> Sum {
-        Sum {
-            total: 0,
-            sign: 1,
->>>>>>> 52a4fcadd43bac3a879c9e34073f7e4973fd5acc
             number: None,
         }
     }
 
     // The number that the last digits make is whole.
-<<<<<<< HEAD
     fn end_number(&mut self) -> Result<(), OutOfMemory>
         ensures { OnOk result ((terms : List Term) → StandsFor self.old terms → IsTotalOf self.new terms) }
     {
         if let Some(value) = self.number {
             self.number = None;
             self.add_product(i64::from(value))?;
-=======
-    fn end_number(&mut self) -> Result<(), OutOfMemory> {
-        if let Some(value) = self.number {
-            self.number = None;
-            self.add_product(value)?;
->>>>>>> 52a4fcadd43bac3a879c9e34073f7e4973fd5acc
         }
         Ok(())
     }
 
     // Adds a constant that is not made of digits.
-<<<<<<< HEAD
     fn add(&mut self, value: i64) -> Result<(), OutOfMemory>
         ensures { OnOk result ((terms : List Term) → StandsFor self.old terms
             → StandsFor self.new (constant value ∷ terms)) }
     {
-=======
-    fn add(&mut self, value: i64) -> Result<(), OutOfMemory> {
->>>>>>> 52a4fcadd43bac3a879c9e34073f7e4973fd5acc
         self.end_number()?;
         self.add_product(value)
     }
 
     // Adds a constant times the signs before it. A sum past the type's range would take more constants than a web has,
     // and finds no place.
-<<<<<<< HEAD
     fn add_product(&mut self, value: i64) -> Result<(), OutOfMemory>
         ensures total { OnOk result (self.new.total ≡ (sign_of self.old.negated *ℤ value) +ℤ self.old.total) }
         ensures signs { OnOk result (self.new.negated ≡ false) }
@@ -135,47 +96,20 @@ impl Sum {
             return Err(Fault::at(VALUE_TOO_BIG, place));
         }
         self.number = Some(value as u32);
-=======
-    fn add_product(&mut self, value: i64) -> Result<(), OutOfMemory> {
-        let product = if self.sign < 0 { -value } else { value };
-        let Some(total) = self.total.checked_add(product) else {
-            return Err(OutOfMemory);
-        };
-        self.total = total;
-        self.sign = 1;
-        Ok(())
-    }
-
-    // Adds a digit, unless its number is then too big.
-    fn add_digit(&mut self, place: Place, byte: u8) -> Result<(), Fault> {
-        let value = self.number.unwrap_or(0) * 10 + i64::from(byte - b'0');
-        if value > GREATEST_VALUE {
-            return Err(Fault::at(VALUE_TOO_BIG, place));
-        }
-        self.number = Some(value);
->>>>>>> 52a4fcadd43bac3a879c9e34073f7e4973fd5acc
         Ok(())
     }
 
     // Adds a sign.
-<<<<<<< HEAD
     fn add_sign(&mut self, place: Place, byte: u8) -> Result<(), WorkErr>
         ensures ok { OnOk result ((terms : List Term) → StandsFor self.old terms
             → IsOkAnd (with_sign place byte terms) (StandsFor self.new)) }
         ensures fault { IfFault result (λ fault. (terms : List Term) → with_sign place byte terms ≡ Err fault) }
     {
-=======
-    fn add_sign(&mut self, place: Place, byte: u8) -> Result<(), WorkErr> {
->>>>>>> 52a4fcadd43bac3a879c9e34073f7e4973fd5acc
         match byte {
             b'+' => self.end_number()?,
             b'-' => {
                 self.end_number()?;
-<<<<<<< HEAD
                 self.negated = !self.negated;
-=======
-                self.sign = -self.sign;
->>>>>>> 52a4fcadd43bac3a879c9e34073f7e4973fd5acc
             }
             _ => return Err(Fault::at(BAD_NUMERIC_DEFINITION, place).into()),
         }
@@ -183,7 +117,6 @@ impl Sum {
     }
 
     // The value of the whole right side, which is too big at the place of the name.
-<<<<<<< HEAD
     fn value(mut self, at_name: Place) -> Result<i32, WorkErr>
         ensures ok { IfOk result (λ value. (terms : List Term) → StandsFor self terms
             → value_of at_name terms ≡ Ok value) }
@@ -192,11 +125,6 @@ impl Sum {
     {
         self.end_number()?;
         if self.total.unsigned_abs() < VALUE_LIMIT {
-=======
-    fn value(mut self, at_name: Place) -> Result<i32, WorkErr> {
-        self.end_number()?;
-        if -VALUE_LIMIT < self.total && self.total < VALUE_LIMIT {
->>>>>>> 52a4fcadd43bac3a879c9e34073f7e4973fd5acc
             Ok(self.total as i32)
         } else {
             Err(Fault::at(VALUE_TOO_BIG, at_name).into())
@@ -207,16 +135,12 @@ impl Sum {
 impl<'l> Scanner<'l> {
     // Reads the right side of the numeric macro with this id, whose name stands at this place, and gives it its value.
     // Answers the code that ends it.
-<<<<<<< HEAD
     pub(crate) fn numeric_side(&mut self, at_name: Place, id: u32) -> Result<Code, WorkErr>
         requires { id < length self.old.web.names.names }
         ensures ok { IfOk result (λ code. right_side_read at_name id Class.Numeric self.old ≡ Ok (code, self.new)) }
         ensures fault { IfFault result (λ fault. right_side_read at_name id Class.Numeric self.old ≡ Err fault) }
         ensures not_longer { OnOk result (length self.new.reading.rest ≤ length self.old.reading.rest) }
     {
-=======
-    pub(crate) fn numeric_side(&mut self, at_name: Place, id: u32) -> Result<Code, WorkErr> {
->>>>>>> 52a4fcadd43bac3a879c9e34073f7e4973fd5acc
         let mut sum = Sum::new();
         let code = self.add_terms(id, &mut sum)?;
         self.parts.set_value(id, sum.value(at_name)?);
@@ -224,7 +148,6 @@ impl<'l> Scanner<'l> {
     }
 
     // Adds the terms of a right side, and answers the code that ends it.
-<<<<<<< HEAD
     fn add_terms(&mut self, id: u32, sum: &mut Sum) -> Result<Code, WorkErr>
         ensures ok { IfOk result (λ code. (terms : List Term) → StandsFor sum.old terms
             → (most : ℕ) → length self.old.reading.rest < most
@@ -234,9 +157,6 @@ impl<'l> Scanner<'l> {
         ensures names { OnOk result (self.new.web.names ≡ self.old.web.names) }
         ensures not_longer { OnOk result (length self.new.reading.rest ≤ length self.old.reading.rest) }
     {
-=======
-    fn add_terms(&mut self, id: u32, sum: &mut Sum) -> Result<Code, WorkErr> {
->>>>>>> 52a4fcadd43bac3a879c9e34073f7e4973fd5acc
         loop {
             let token = self.token()?;
             if let Some(code) = ending_code(token) {
@@ -247,7 +167,6 @@ impl<'l> Scanner<'l> {
     }
 
     // Adds a term of a right side.
-<<<<<<< HEAD
     fn add_term(&mut self, id: u32, sum: &mut Sum, token: Lexed<'l>) -> Result<(), WorkErr>
         ensures ok { OnOk result ((terms : List Term) → StandsFor sum.old terms
             → IsOkAnd (with_token id (place_of_last self.old) (token_of token.entry) terms self.old.web)
@@ -257,9 +176,6 @@ impl<'l> Scanner<'l> {
         ensures names { OnOk result (self.new.web.names ≡ self.old.web.names) }
         ensures reading { self.new.reading ≡ self.old.reading }
     {
-=======
-    fn add_term(&mut self, id: u32, sum: &mut Sum, token: Lexed<'l>) -> Result<(), WorkErr> {
->>>>>>> 52a4fcadd43bac3a879c9e34073f7e4973fd5acc
         let place = self.place();
         match token {
             Lexed::Sign(byte) => sum.add_sign(place, byte)?,

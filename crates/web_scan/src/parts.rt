@@ -1,7 +1,6 @@
 //! What a web gives, as far as it was scanned.
-<<<<<<< HEAD
-ghost use Rattle.std.specs.Prelude.{◌≡◌, ◌≢◌, ◌+◌, ◌<◌, ◌≤◌, ℕ, List, [], ◌∷◌, ◌++◌, Some, None, Ok, Err, IfOk, IfErr, OnOk};
-ghost use Rattle.std.specs.Prelude.{length, take, drop, slice_get, pos, All};
+ghost use Rattle.std.specs.Prelude.{◌≡◌, ◌≢◌, ◌+◌, ◌<◌, ◌≤◌, ℕ, List, [], ◌∷◌, ◌++◌, Some, None, Ok, Err, IfOk, IfErr};
+ghost use Rattle.std.specs.Prelude.{OnOk, length, take, drop, slice_get, pos, All};
 ghost use Rattle.wb_base.specs.WorkResult.{IfFault};
 ghost use Rattle.wb_base.specs.declared.tokens.Tok.TheVariants as tok;
 ghost use Rattle.web_names.specs.Identifiers.{folded, id_of};
@@ -9,14 +8,6 @@ ghost use Rattle.web_scan.specs.Numeric.{Term, constant, with_constant, word_val
 ghost use Rattle.web_pool.specs.Strings.{numbered};
 ghost use Rattle.web_scan.specs.Pieces.{IsPieceWithin};
 ghost use Rattle.web_scan.specs.inner.Under.{pieces_in, with_piece_under, AreWithin};
-=======
-ghost use Rattle.std.specs.Prelude.{◌≡◌, ◌≢◌, ◌+◌, ◌<◌, ◌≤◌, [], ◌∷◌, ◌++◌, Some, None, Ok, Err, IfOk, IfErr, OnOk, length, map, take, drop, slice_get, pos};
-ghost use Rattle.wb_base.specs.WorkResult.{IfFault};
-ghost use Rattle.wb_base.specs.declared.tokens.Tok.TheVariants as tok;
-ghost use Rattle.web_names.specs.Identifiers.{folded};
-ghost use Rattle.web_pool.specs.Strings.{numbered};
-ghost use Rattle.web_scan.specs.inner.Under.{pieces_in, with_piece_under};
->>>>>>> 52a4fcadd43bac3a879c9e34073f7e4973fd5acc
 
 use crate::limits::{SECTION_LIMIT, TOKEN_LIMIT};
 use crate::pieces::{Piece, Span};
@@ -24,12 +15,7 @@ use crate::refusals::{refused_name, refused_string};
 use std::alloc::Global;
 use std::marker::Model;
 use wb_base::faults::{
-<<<<<<< HEAD
     BAD_NUMERIC_DEFINITION, LIMIT_NAMES, LIMIT_SECTION_NAMES, LIMIT_SECTIONS, LIMIT_TOKENS,
-=======
-    BAD_NUMERIC_DEFINITION, LIMIT_NAMES, LIMIT_SECTION_NAMES, LIMIT_SECTIONS, LIMIT_STRINGS,
-    LIMIT_TOKENS,
->>>>>>> 52a4fcadd43bac3a879c9e34073f7e4973fd5acc
 };
 use wb_base::{Fault, Options, OutOfMemory, Place, Text, Tok, WorkErr};
 use web_lex::SectionName;
@@ -65,7 +51,7 @@ impl Model for Parts {
 
 impl Parts {
     ghost use Rattle.web_scan.specs.Scanned.{nothing_scanned};
-    ghost use Rattle.web_scan.specs.Limits.{with_room, stored, string_number, string_stored, section_begun};
+    ghost use Rattle.web_scan.specs.Refusals.{with_room, stored, string_number, string_stored, section_begun};
     ghost use Rattle.web_scan.specs.Texts.{word_stored, quoted_stored};
     ghost use Rattle.web_scan.specs.Definitions.{macro_defined, value_given};
     ghost use Rattle.web_scan.specs.Sections.{name_found, with_pascal_text};
@@ -121,8 +107,10 @@ impl Parts {
 
     // Stores a word of one letter.
     pub(crate) fn store_letter(&mut self, place: Place, letter: u8) -> Result<(), WorkErr>
-        ensures ok { OnOk result (stored place (tok.Letter (folded self.old.names.options.case letter)) self.old ≡ Ok self.new) }
-        ensures fault { IfFault result (λ fault. stored place (tok.Letter (folded self.old.names.options.case letter)) self.old ≡ Err fault) }
+        ensures ok { let token = tok.Letter (folded self.old.names.options.case letter) in
+            OnOk result (stored place token self.old ≡ Ok self.new) }
+        ensures fault { let token = tok.Letter (folded self.old.names.options.case letter) in
+            IfFault result (λ fault. stored place token self.old ≡ Err fault) }
         ensures grows { length self.old.tokens ≤ length self.new.tokens }
     {
         let options = self.options;
@@ -168,7 +156,8 @@ impl Parts {
     // Stores a string in double quotes with this value, as its number.
     pub(crate) fn store_string(&mut self, place: Place, value: &[u8]) -> Result<(), WorkErr>
         ensures ok { OnOk result (string_stored place self.old (numbered value.now self.old.strings) ≡ Ok self.new) }
-        ensures fault { IfFault result (λ fault. string_stored place self.old (numbered value.now self.old.strings) ≡ Err fault) }
+        ensures fault { IfFault result (λ fault.
+            string_stored place self.old (numbered value.now self.old.strings) ≡ Err fault) }
         ensures grows { length self.old.tokens ≤ length self.new.tokens }
     {
         match self.pool.add(value) {
@@ -183,8 +172,10 @@ impl Parts {
 
     // The number of a string in double quotes with this value.
     pub(crate) fn number_string(&mut self, place: Place, value: &[u8]) -> Result<u32, WorkErr>
-        ensures ok { IfOk result (λ number. string_number place self.old (numbered value.now self.old.strings) ≡ Ok (number, self.new)) }
-        ensures fault { IfFault result (λ fault. string_number place self.old (numbered value.now self.old.strings) ≡ Err fault) }
+        ensures ok { IfOk result (λ number.
+            string_number place self.old (numbered value.now self.old.strings) ≡ Ok (number, self.new)) }
+        ensures fault { IfFault result (λ fault.
+            string_number place self.old (numbered value.now self.old.strings) ≡ Err fault) }
         ensures few { IfOk result (λ number. number < 32768) }
         ensures names { self.new.names ≡ self.old.names }
     {
@@ -228,7 +219,6 @@ impl Parts {
         place: Place,
         defining: u32,
         word: &[u8],
-<<<<<<< HEAD
     ) -> Result<i32, WorkErr>
         ensures ok { IfOk result (λ value. (terms : List Term) →
             with_constant place (word_value defining (id_of word.now self.old.names.names) self.old.names.names) terms
@@ -251,16 +241,6 @@ impl Parts {
         match class {
             Class::Numeric => Ok(value),
             _ => Err(refusal),
-=======
-    ) -> Result<i32, WorkErr> {
-        match self.names.intern(word) {
-            Ok(id) => match self.names.kind(id) {
-                (Class::Numeric, value) if id != defining => Ok(value),
-                _ => Err(Fault::at(BAD_NUMERIC_DEFINITION, place).into()),
-            },
-            Err(NameErr::OutOfMemory) => Err(WorkErr::OutOfMemory),
-            Err(_) => Err(Fault::at(BAD_NUMERIC_DEFINITION, place).into()),
->>>>>>> 52a4fcadd43bac3a879c9e34073f7e4973fd5acc
         }
     }
 
@@ -298,8 +278,8 @@ impl Parts {
         Ok(())
     }
 
-    // Adds the text of the last section: the tokens that were stored since there were so many, under the name with this
-    // place, or as one of the unnamed section.
+    // Adds the text of the last section: the tokens that were stored since there were so many, under the name with
+    // this place, or as one of the unnamed section.
     pub(crate) fn add_piece(&mut self, name: Option<u32>, first: u32) -> Result<(), WorkErr>
         requires { first ≤ length self.old.tokens }
         ensures ok { OnOk result (self.new ≡ with_pascal_text name (drop first self.old.tokens) self.old) }
@@ -333,13 +313,9 @@ impl Parts {
 
 // Adds a text under the name with this place.
 fn push_under(named: &mut Vec<Vec<Piece>>, name: usize, piece: Piece) -> Result<(), OutOfMemory>
-<<<<<<< HEAD
     ensures ok { OnOk result (pieces_in named.new.items ≡ with_piece_under name piece (pieces_in named.old.items)) }
     ensures within { (size : ℕ) → IsPieceWithin size piece → AreWithin size named.old.items
         → AreWithin size named.new.items }
-=======
-    ensures { OnOk result (pieces_in named.new.items ≡ with_piece_under name piece (pieces_in named.old.items)) }
->>>>>>> 52a4fcadd43bac3a879c9e34073f7e4973fd5acc
 {
     let alloc = *named.allocator();
     'padded: while named.len() <= name {
@@ -355,24 +331,16 @@ impl Parts {
 
     // The texts of the unnamed section.
     pub(crate) fn unnamed(&self) -> &[Piece]
-<<<<<<< HEAD
         ensures texts { pascal_texts_at self.now.tokens result.now ≡ self.now.unnamed }
         ensures within { All (IsPieceWithin (length self.now.tokens)) result.now }
-=======
-        ensures { pascal_texts_at self.now.tokens result.now ≡ self.now.unnamed }
->>>>>>> 52a4fcadd43bac3a879c9e34073f7e4973fd5acc
     {
         &self.unnamed
     }
 
     // The texts under the name with this place.
     pub(crate) fn pieces(&self, section: u32) -> &[Piece]
-<<<<<<< HEAD
         ensures texts { pascal_texts_at self.now.tokens result.now ≡ texts_under section self.now.named }
         ensures within { All (IsPieceWithin (length self.now.tokens)) result.now }
-=======
-        ensures { pascal_texts_at self.now.tokens result.now ≡ texts_under section self.now.named }
->>>>>>> 52a4fcadd43bac3a879c9e34073f7e4973fd5acc
     {
         match self.named.get(section as usize) {
             Some(pieces) => pieces,

@@ -1,7 +1,7 @@
 //! How names and strings are refused.
 ghost use Rattle.std.specs.Prelude.{◌≡◌, ◌≢◌};
 ghost use Rattle.wb_base.specs.FaultAt.{fault_at, limit_passed};
-ghost use Rattle.web_scan.specs.Limits.{name_fault};
+ghost use Rattle.web_scan.specs.Refusals.{name_fault};
 ghost use Rattle.web_scan.specs.inner.Refused.{work_error_of_name, work_error_of_string};
 
 use wb_base::faults::{

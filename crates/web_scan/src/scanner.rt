@@ -1,18 +1,10 @@
 //! A reader within a web, with what the web before it gave.
-<<<<<<< HEAD
 ghost use Rattle.std.specs.Prelude.{◌≡◌, ◌≢◌, ◌<◌, ◌≤◌, length, Ok, Err, IfOk};
 ghost use Rattle.wb_base.specs.WorkResult.{IfFault};
 ghost use Rattle.web_lex.specs.Token.{token_of, end_of_input};
 ghost use Rattle.web_scan.specs.Scanned.{scanning_of, place_of_last, token_read, code_found};
 ghost use Rattle.web_scan.specs.Sections.{name_read};
 ghost use Rattle.web_scan.specs.Lawful.{IsLawful};
-=======
-ghost use Rattle.std.specs.Prelude.{◌≡◌, Ok, Err, IfOk};
-ghost use Rattle.wb_base.specs.WorkResult.{IfFault};
-ghost use Rattle.web_lex.specs.Token.{token_of};
-ghost use Rattle.web_scan.specs.Scanned.{scanning_of, place_of_last, token_read, code_found};
-ghost use Rattle.web_scan.specs.Sections.{name_read};
->>>>>>> 52a4fcadd43bac3a879c9e34073f7e4973fd5acc
 
 use crate::parts::Parts;
 use crate::web::Web;
@@ -61,26 +53,19 @@ impl<'l> Scanner<'l> {
     pub(crate) fn token(&mut self) -> Result<Lexed<'l>, WorkErr>
         ensures ok { IfOk result (λ token. token_read self.old ≡ Ok (token_of token, self.new)) }
         ensures fault { IfFault result (λ fault. token_read self.old ≡ Err fault) }
-<<<<<<< HEAD
         ensures web { self.new.web ≡ self.old.web }
         ensures shorter { IfOk result (λ token. token_of token ≢ end_of_input
             → length self.new.reading.rest < length self.old.reading.rest) }
         ensures not_longer { length self.new.reading.rest ≤ length self.old.reading.rest }
-=======
->>>>>>> 52a4fcadd43bac3a879c9e34073f7e4973fd5acc
     {
         Ok(self.reader.next()?)
     }
 
     // Passes text outside Pascal, and answers the next code that is not passed.
     pub(crate) fn skip_ahead(&mut self) -> Code
-<<<<<<< HEAD
         ensures found { code_found self.old ≡ (result, self.new) }
         ensures shorter { result ≢ Code.End → length self.new.reading.rest < length self.old.reading.rest }
         ensures not_longer { length self.new.reading.rest ≤ length self.old.reading.rest }
-=======
-        ensures { code_found self.old ≡ (result, self.new) }
->>>>>>> 52a4fcadd43bac3a879c9e34073f7e4973fd5acc
     {
         self.reader.skip_ahead()
     }
@@ -89,11 +74,8 @@ impl<'l> Scanner<'l> {
     pub(crate) fn section_name(&mut self) -> Result<u32, WorkErr>
         ensures ok { IfOk result (λ found. name_read self.old ≡ Ok (found, self.new)) }
         ensures fault { IfFault result (λ fault. name_read self.old ≡ Err fault) }
-<<<<<<< HEAD
         ensures tokens { self.new.web.tokens ≡ self.old.web.tokens }
         ensures not_longer { length self.new.reading.rest ≤ length self.old.reading.rest }
-=======
->>>>>>> 52a4fcadd43bac3a879c9e34073f7e4973fd5acc
     {
         let name = self.reader.section_name(self.alloc)?;
         let place = self.reader.place();
@@ -101,14 +83,10 @@ impl<'l> Scanner<'l> {
     }
 
     // The web, at its end.
-<<<<<<< HEAD
     pub(crate) fn into_web(self) -> Web
         requires { IsLawful self.web }
         ensures { result ≡ self.entry.web }
     {
-=======
-    pub(crate) fn into_web(self) -> Web {
->>>>>>> 52a4fcadd43bac3a879c9e34073f7e4973fd5acc
         Web::new(self.parts)
     }
 }

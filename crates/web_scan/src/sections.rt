@@ -1,5 +1,4 @@
 //! The sections of a web.
-<<<<<<< HEAD
 ghost use Rattle.std.specs.Prelude.{◌≡◌, ◌≢◌, ◌<◌, ◌≤◌, ℕ, length, Ok, Err, IfOk, OnOk};
 ghost use Rattle.wb_base.specs.WorkResult.{IfFault};
 ghost use Rattle.web_scan.specs.Texts.{still_open, stored_since};
@@ -25,21 +24,6 @@ fn is_equals(token: Lexed<'_>) -> bool
     is_sign(b'=', token) || is_same(token)
 }
 
-=======
-ghost use Rattle.std.specs.Prelude.{◌≡◌, ◌<◌, ◌≤◌, ℕ, length, Ok, Err, IfOk, OnOk};
-ghost use Rattle.wb_base.specs.WorkResult.{IfFault};
-ghost use Rattle.web_scan.specs.Texts.{stored_since};
-ghost use Rattle.web_scan.specs.Sections.{sections, section, section_parts, named_text, head_read, pascal_text, section_text, section_used};
-ghost use Rattle.web_scan.specs.inner.Open.{IsOpen};
-
-use crate::scanner::Scanner;
-use crate::texts::OpenText;
-use wb_base::faults::{DEFINITION_IN_PASCAL, NO_EQUALS_SIGN};
-use wb_base::{Fault, Joined, Tok, WorkErr};
-use web_lex::{Code, Lexed};
-use web_names::Class;
-
->>>>>>> 52a4fcadd43bac3a879c9e34073f7e4973fd5acc
 impl<'l> Scanner<'l> {
     // Scans the sections of a web from a code on. What stands before the first is passed.
     pub(crate) fn sections(&mut self, first: Code) -> Result<(), WorkErr>
@@ -62,11 +46,8 @@ impl<'l> Scanner<'l> {
     fn section(&mut self) -> Result<Code, WorkErr>
         ensures ok { IfOk result (λ code. section self.old ≡ Ok (code, self.new)) }
         ensures fault { IfFault result (λ fault. section self.old ≡ Err fault) }
-<<<<<<< HEAD
         ensures shorter { IfOk result (λ code. code ≢ Code.End
             → length self.new.reading.rest < length self.old.reading.rest) }
-=======
->>>>>>> 52a4fcadd43bac3a879c9e34073f7e4973fd5acc
     {
         let place = self.place();
         self.parts.begin_section(place)?;
@@ -81,10 +62,7 @@ impl<'l> Scanner<'l> {
             ≡ Ok (code, self.new)) }
         ensures fault { IfFault result (λ fault. (most : ℕ) → length self.old.reading.rest < most
             → section_parts most first self.old ≡ Err fault) }
-<<<<<<< HEAD
         ensures not_longer { OnOk result (length self.new.reading.rest ≤ length self.old.reading.rest) }
-=======
->>>>>>> 52a4fcadd43bac3a879c9e34073f7e4973fd5acc
     {
         let mut code = first;
         loop {
@@ -102,10 +80,7 @@ impl<'l> Scanner<'l> {
     fn named_text(&mut self) -> Result<Code, WorkErr>
         ensures ok { IfOk result (λ code. named_text self.old ≡ Ok (code, self.new)) }
         ensures fault { IfFault result (λ fault. named_text self.old ≡ Err fault) }
-<<<<<<< HEAD
         ensures not_longer { OnOk result (length self.new.reading.rest ≤ length self.old.reading.rest) }
-=======
->>>>>>> 52a4fcadd43bac3a879c9e34073f7e4973fd5acc
     {
         let name = self.section_name()?;
         self.head_signs()?;
@@ -118,7 +93,6 @@ impl<'l> Scanner<'l> {
             → head_read most self.old ≡ Ok self.new) }
         ensures fault { IfFault result (λ fault. (most : ℕ) → length self.old.reading.rest < most
             → head_read most self.old ≡ Err fault) }
-<<<<<<< HEAD
         ensures not_longer { OnOk result (length self.new.reading.rest ≤ length self.old.reading.rest) }
     {
         loop {
@@ -128,14 +102,6 @@ impl<'l> Scanner<'l> {
             }
             if !is_sign(b'+', token) {
                 return Err(Fault::at(NO_EQUALS_SIGN, self.place()).into());
-=======
-    {
-        loop {
-            match self.token()? {
-                Lexed::Sign(b'+') => {}
-                Lexed::Sign(b'=') | Lexed::Joined(Joined::Same) => return Ok(()),
-                _ => return Err(Fault::at(NO_EQUALS_SIGN, self.place()).into()),
->>>>>>> 52a4fcadd43bac3a879c9e34073f7e4973fd5acc
             }
         }
     }
@@ -144,10 +110,7 @@ impl<'l> Scanner<'l> {
     fn pascal_text(&mut self, name: Option<u32>) -> Result<Code, WorkErr>
         ensures ok { IfOk result (λ code. pascal_text name self.old ≡ Ok (code, self.new)) }
         ensures fault { IfFault result (λ fault. pascal_text name self.old ≡ Err fault) }
-<<<<<<< HEAD
         ensures not_longer { OnOk result (length self.new.reading.rest ≤ length self.old.reading.rest) }
-=======
->>>>>>> 52a4fcadd43bac3a879c9e34073f7e4973fd5acc
     {
         let mut text = self.begin_text(Class::Ordinary);
         let code = self.section_text(&mut text)?;
@@ -157,19 +120,14 @@ impl<'l> Scanner<'l> {
 
     // Scans the tokens of a section's text, and answers the code that ends it.
     fn section_text(&mut self, text: &mut OpenText) -> Result<Code, WorkErr>
-<<<<<<< HEAD
         requires open { IsOpen text.old self.old.web }
         requires class { text.old.class ≡ Class.Ordinary }
-=======
-        requires { IsOpen text.old self.old.web }
->>>>>>> 52a4fcadd43bac3a879c9e34073f7e4973fd5acc
         ensures ok { IfOk result (λ code. (most : ℕ) → length self.old.reading.rest < most
             → section_text most text.old.first self.old
             ≡ Ok (stored_since text.old.first self.new.web, code, self.new)) }
         ensures fault { IfFault result (λ fault. (most : ℕ) → length self.old.reading.rest < most
             → section_text most text.old.first self.old ≡ Err fault) }
         ensures first { text.new.first ≡ text.old.first }
-<<<<<<< HEAD
         ensures within { OnOk result (text.new.first ≤ length self.new.web.tokens) }
         ensures not_longer { OnOk result (length self.new.reading.rest ≤ length self.old.reading.rest) }
     {
@@ -181,31 +139,10 @@ impl<'l> Scanner<'l> {
                     Code::Name => self.section_used()?,
                     _ => return self.section_end(text, code),
                 },
-=======
-        ensures within { text.new.first ≤ length self.new.web.tokens }
-    {
-        loop {
-            let token = self.token()?;
-            match token {
-                Lexed::End => {
-                    self.check_ended(text)?;
-                    return Ok(Code::End);
-                }
-                Lexed::Code(Code::Section) => {
-                    self.check_ended(text)?;
-                    return Ok(Code::Section);
-                }
-                Lexed::Code(Code::Definition | Code::Format | Code::Pascal) => {
-                    return Err(Fault::at(DEFINITION_IN_PASCAL, self.place()).into());
-                }
-                Lexed::Code(Code::Name) => self.section_used()?,
-                _ => self.text_token(text, token)?,
->>>>>>> 52a4fcadd43bac3a879c9e34073f7e4973fd5acc
             }
         }
     }
 
-<<<<<<< HEAD
     // A code other than a name's, which ends the text of a macro, in the text of a section: a section start or the end
     // of the input ends it, and no other may stand in it.
     fn section_end(&self, text: &OpenText, code: Code) -> Result<Code, WorkErr>
@@ -223,19 +160,14 @@ impl<'l> Scanner<'l> {
         }
     }
 
-=======
->>>>>>> 52a4fcadd43bac3a879c9e34073f7e4973fd5acc
     // Stores the name of a section in a text.
     fn section_used(&mut self) -> Result<(), WorkErr>
         ensures ok { OnOk result (section_used self.old ≡ Ok self.new) }
         ensures fault { IfFault result (λ fault. section_used self.old ≡ Err fault) }
-<<<<<<< HEAD
         ensures not_longer { OnOk result (length self.new.reading.rest ≤ length self.old.reading.rest) }
         ensures grows { OnOk result (length self.old.web.tokens ≤ length self.new.web.tokens) }
         ensures open { OnOk result ((first : ℕ) → first ≤ length self.old.web.tokens
             → still_open (stored_since first self.new.web) ≡ still_open (stored_since first self.old.web)) }
-=======
->>>>>>> 52a4fcadd43bac3a879c9e34073f7e4973fd5acc
     {
         let name = self.section_name()?;
         let place = self.place();

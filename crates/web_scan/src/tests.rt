@@ -5,13 +5,9 @@ use std::alloc::Global;
 use std::test::Fail;
 use wb_base::faults::{
     LIMIT_NAMES, LIMIT_PASSED, LIMIT_SECTION_NAMES, LIMIT_SECTIONS, LIMIT_STRINGS, LIMIT_TOKENS,
-<<<<<<< HEAD
     POOL_STRING_TOO_LONG,
-=======
->>>>>>> 52a4fcadd43bac3a879c9e34073f7e4973fd5acc
 };
 use wb_base::{Case, FileTag, Options, OutOfMemory, Text, Tok, WorkErr};
-use web_names::Class;
 
 const BY_DEFAULT: Options = Options {
     length: 32,
@@ -20,7 +16,6 @@ const BY_DEFAULT: Options = Options {
     strict: false,
 };
 
-<<<<<<< HEAD
 const UNDERLINES: Options = Options {
     length: 32,
     underline: true,
@@ -42,27 +37,13 @@ const THREE_BYTES: Options = Options {
     strict: false,
 };
 
-=======
->>>>>>> 52a4fcadd43bac3a879c9e34073f7e4973fd5acc
 // The scan of a web with this text.
 fn scan_text(alloc: Global, text: &[u8], options: Options) -> Result<Web, WorkErr> {
     let list = lines(alloc, FileTag::Web, text)?;
     scan(alloc, &list, options)
 }
 
-<<<<<<< HEAD
 // The number, the line and the limit of the fault of a scan, or 0s.
-=======
-// A web, and the number, the line and the limit of its first fault, or 0s.
-#[derive(Clone, Copy)]
-struct Faulty {
-    web: &'static [u8],
-    code: u16,
-    line: u32,
-}
-
-// The number and the line of the fault of a scan.
->>>>>>> 52a4fcadd43bac3a879c9e34073f7e4973fd5acc
 fn fault_of(scanned: Result<Web, WorkErr>) -> (u16, u32, u8) {
     match scanned {
         Ok(_) => (0, 0, 0),
@@ -71,7 +52,6 @@ fn fault_of(scanned: Result<Web, WorkErr>) -> (u16, u32, u8) {
     }
 }
 
-<<<<<<< HEAD
 // A web, and the number and the line of its first fault, or 0s.
 #[derive(Clone, Copy)]
 struct Faulty {
@@ -80,29 +60,20 @@ struct Faulty {
     line: u32,
 }
 
-=======
->>>>>>> 52a4fcadd43bac3a879c9e34073f7e4973fd5acc
 #[test]
 fn tells_faults(rt: HostRuntime) -> Result<(), Fail> {
     #[rattlefmt::skip]
     let rows = [
-<<<<<<< HEAD
         Faulty { web: b"no section @d ' @p (", code: 0, line: 0 },
         Faulty { web: b"@p (\n@ x", code: 0, line: 0 },
         Faulty { web: b"@ @p x\n'\t'", code: 8, line: 2 },
         Faulty { web: b"@ @p @<a\nb\x01@>", code: 8, line: 2 },
         Faulty { web: b"@ @p x@\x01y", code: 0, line: 0 },
-=======
-        Faulty { web: b"@ @p x\n'\t'", code: 8, line: 2 },
->>>>>>> 52a4fcadd43bac3a879c9e34073f7e4973fd5acc
         Faulty { web: b"@ @p {\nx @* y", code: 9, line: 2 },
         Faulty { web: b"@ @p x\n'ab", code: 10, line: 2 },
         Faulty { web: b"@ @p x\n'a@b'", code: 11, line: 2 },
         Faulty { web: b"@ @p @<a\nb @*", code: 12, line: 2 },
-<<<<<<< HEAD
         Faulty { web: b"@ @p @<\n@>", code: 12, line: 2 },
-=======
->>>>>>> 52a4fcadd43bac3a879c9e34073f7e4973fd5acc
         Faulty { web: b"@ @p x\n}\n@d", code: 13, line: 2 },
         Faulty { web: b"@ @p @^a\nb @p", code: 14, line: 2 },
         Faulty { web: b"@ @d x\n=1", code: 16, line: 1 },
@@ -111,9 +82,10 @@ fn tells_faults(rt: HostRuntime) -> Result<(), Fail> {
         Faulty { web: b"@ @p xx_y\n@ @d\nab\nxxy=1", code: 16, line: 4 },
         Faulty { web: b"@ @d nn=nn+1", code: 17, line: 1 },
         Faulty { web: b"@ @d nn=1\n*2", code: 17, line: 2 },
-<<<<<<< HEAD
         Faulty { web: b"@ @d nn=214748364{c}\n8\n}", code: 18, line: 2 },
         Faulty { web: b"@ @d mm=32768", code: 18, line: 1 },
+        Faulty { web: b"@ @d mm=-3\n@d nn=mm+@'17+@\"F+\"a\"\n@d pp=nn+32643", code: 0, line: 0 },
+        Faulty { web: b"@ @d mm=-3\n@d nn=mm+@'17+@\"F+\"a\"\n@d pp=nn+32644", code: 18, line: 3 },
         Faulty { web: b"@ @d\nmm\n=-32768\n\n@<", code: 18, line: 2 },
         Faulty { web: b"@ @d\nmm\n=-32768\n}", code: 13, line: 4 },
         Faulty { web: b"@ @d mm=32767", code: 0, line: 0 },
@@ -131,21 +103,6 @@ fn tells_faults(rt: HostRuntime) -> Result<(), Fail> {
         Faulty { web: b"@ @p x\n@<Ini\n...@>@<Initialize@>", code: 25, line: 2 },
         Faulty { web: b"@ @p @<Initial@>\n@<Ini ...@>", code: 25, line: 2 },
         Faulty { web: b"@ @p @<Initialize@>@<Ini...@>\n@ @<Initialize@>=x;", code: 0, line: 0 },
-=======
-        Faulty { web: b"@ @d nn=214748364\n8\n}", code: 18, line: 2 },
-        Faulty { web: b"@ @d\nmm\n=-32768\n\n@<", code: 18, line: 2 },
-        Faulty { web: b"@ @d\nmm\n=-32768\n}", code: 13, line: 4 },
-        Faulty { web: b"@ @d mm=32767", code: 0, line: 0 },
-        Faulty { web: b"@ @p xx\n@ @d xx\n=\n}", code: 19, line: 3 },
-        Faulty { web: b"@ @d xx==y\n@d xx(#)\n==(", code: 20, line: 3 },
-        Faulty { web: b"@ @p foo_bar\nfoobar", code: 21, line: 2 },
-        Faulty { web: b"@ @p foo_bar\n@ @d foobar==x\n@p foobar", code: 0, line: 0 },
-        Faulty { web: b"@ @p (\n)\n)", code: 22, line: 3 },
-        Faulty { web: b"@ @d xx==(\n@<}", code: 22, line: 2 },
-        Faulty { web: b"@ @<A@>+\n@<", code: 23, line: 2 },
-        Faulty { web: b"@ @p (\n@f", code: 24, line: 2 },
-        Faulty { web: b"@ @p x\n@<Ini\n...@>@<Initialize@>", code: 25, line: 2 },
->>>>>>> 52a4fcadd43bac3a879c9e34073f7e4973fd5acc
         Faulty { web: b"@ @p @<Inner part@> @<Initialize@> @<In...@>", code: 26, line: 1 },
         Faulty { web: b"@ @p @<Initial@>\n@<Initialize@>", code: 27, line: 2 },
         Faulty { web: b"@ @d xx=1\n2e", code: 35, line: 2 },
@@ -158,7 +115,6 @@ fn tells_faults(rt: HostRuntime) -> Result<(), Fail> {
     Ok(())
 }
 
-<<<<<<< HEAD
 // A web, options, and the number of its first fault, or 0.
 #[derive(Clone, Copy)]
 struct Looking {
@@ -184,83 +140,29 @@ fn obeys_options(rt: HostRuntime) -> Result<(), Fail> {
         let told = fault_of(scan_text(rt.alloc(), row.web, row.options));
         assert_eq!(rt; (index, told.0), (index, row.code));
     }
-    let web = scan_text(rt.alloc(), b"@ @p foo_bar x", UNDERLINES)?;
-    assert_eq!(rt; web.names().printed(0), b"FOO_BAR".as_slice());
-    assert_eq!(rt; web.tokens(1, 1), [Tok::Letter(b'X')].as_slice());
     Ok(())
 }
 
 #[test]
 fn reads_a_web(rt: HostRuntime) -> Result<(), Fail> {
-    let text =
-        b"@p no @ @d mm=-3\n@d nn=mm+@'17+@\"F+\"a\" @d ff(#)==#\"ab\"'c' @p x@&mm\n@*@<A b@>++=@<A...@>#@ @<A b@>=y";
-=======
-#[test]
-fn reads_a_web(rt: HostRuntime) -> Result<(), Fail> {
-    let text =
-        b"@p no @ @d mm=-3\n@d nn=mm+@'17+@\"F+\"a\" @d ff(#)==#\"ab\"'c' @p x@&mm\n@*@<A b@>++=@<A...@>#";
->>>>>>> 52a4fcadd43bac3a879c9e34073f7e4973fd5acc
-    let web = scan_text(rt.alloc(), text, BY_DEFAULT)?;
-    assert_eq!(rt; web.names().kind(1), (Class::Numeric, 124));
-    assert_eq!(rt;
-        web.macro_text(2),
-        [Tok::Param, Tok::Number(256), Tok::Quoted(0)].as_slice()
-    );
-    assert_eq!(rt; web.string(0), b"'c'".as_slice());
-    assert_eq!(rt; web.pool().count(), 1);
-<<<<<<< HEAD
+    let text = b"@p no @ @d ff(#)==#\"ab\"'c' @p x@&foo_bar\n@*@<A b@>++=@<A...@>#@ @p\"\"";
+    let web = scan_text(rt.alloc(), text, UNDERLINES)?;
+    assert_eq!(rt; web.pool().count(), 2);
     #[rattlefmt::skip]
-    let unnamed = [Piece { number: 1, first: 3, count: 3 }];
+    let unnamed = [Piece { number: 1, first: 3, count: 3 }, Piece { number: 3, first: 8, count: 1 }];
     assert_eq!(rt; web.unnamed(), unnamed.as_slice());
-=======
-    let unnamed = Piece {
-        number: 1,
-        first: 3,
-        count: 3,
-    };
-    assert_eq!(rt; web.unnamed(), [unnamed].as_slice());
->>>>>>> 52a4fcadd43bac3a879c9e34073f7e4973fd5acc
-    assert_eq!(rt;
-        web.tokens(3, 3),
-        [Tok::Letter(b'x'), Tok::Join, Tok::Name(0)].as_slice()
-    );
-<<<<<<< HEAD
-    #[rattlefmt::skip]
-    let named = [Piece { number: 2, first: 6, count: 2 }, Piece { number: 3, first: 8, count: 1 }];
-    assert_eq!(rt; web.pieces(0), named.as_slice());
-=======
-    let named = Piece {
-        number: 2,
-        first: 6,
-        count: 2,
-    };
-    assert_eq!(rt; web.pieces(0), [named].as_slice());
->>>>>>> 52a4fcadd43bac3a879c9e34073f7e4973fd5acc
-    assert_eq!(rt;
-        web.tokens(6, 2),
-        [Tok::Section(0), Tok::Sign(b'#')].as_slice()
-    );
+    if let [first, second] = web.unnamed() {
+        let tokens = [Tok::Letter(b'X'), Tok::Join, Tok::Name(1)];
+        assert_eq!(rt; web.tokens(first.first, first.count), tokens.as_slice());
+        assert_eq!(rt;
+            web.tokens(second.first, second.count),
+            [Tok::Number(257)].as_slice()
+        );
+    }
     Ok(())
 }
 
 #[test]
-<<<<<<< HEAD
-=======
-fn obeys_options(rt: HostRuntime) -> Result<(), Fail> {
-    let underlines = Options {
-        length: 32,
-        underline: true,
-        case: Case::Upper,
-        strict: false,
-    };
-    let web = scan_text(rt.alloc(), b"@ @p foo_bar:=foobar x", underlines)?;
-    assert_eq!(rt; web.names().printed(0), b"FOO_BAR".as_slice());
-    assert_eq!(rt; web.tokens(3, 1), [Tok::Letter(b'X')].as_slice());
-    Ok(())
-}
-
-#[test]
->>>>>>> 52a4fcadd43bac3a879c9e34073f7e4973fd5acc
 fn ends_in_a_change_file(rt: HostRuntime) -> Result<(), Fail> {
     let alloc = rt.alloc();
     let changes = parse_changes(alloc, b"\n@x\nb\n@y\n(\n@z")?;
@@ -277,11 +179,7 @@ fn ends_in_a_change_file(rt: HostRuntime) -> Result<(), Fail> {
     Ok(())
 }
 
-<<<<<<< HEAD
 // A web with this first line, and then the numbers from 0 on, so many, each on a new line between these bytes.
-=======
-// Lines with the numbers from 1 to this one between these bytes, after a first line.
->>>>>>> 52a4fcadd43bac3a879c9e34073f7e4973fd5acc
 fn counted(
     alloc: Global,
     first: &[u8],
@@ -300,18 +198,13 @@ fn counted(
     Ok(text)
 }
 
-<<<<<<< HEAD
 // A web of numbers, and the line at which the last of them passes a limit, which no earlier line does.
-=======
-// How many lines of numbers between these bytes may stand after a first line, and the limit that one more passes.
->>>>>>> 52a4fcadd43bac3a879c9e34073f7e4973fd5acc
 #[derive(Clone, Copy)]
 struct Limited {
     first: &'static [u8],
     before: &'static [u8],
     after: &'static [u8],
     count: i64,
-<<<<<<< HEAD
     line: u32,
     which: u8,
 }
@@ -337,16 +230,10 @@ fn obeys_limits_of_names(rt: HostRuntime) -> Result<(), Fail> {
     Ok(())
 }
 
-=======
-    which: u8,
-}
-
->>>>>>> 52a4fcadd43bac3a879c9e34073f7e4973fd5acc
 #[test]
 fn obeys_limits(rt: HostRuntime) -> Result<(), Fail> {
     #[rattlefmt::skip]
     let rows = [
-<<<<<<< HEAD
         Limited { first: b"@ @p", before: b"\"s", after: b"\"", count: 32_513, line: 32_514, which: LIMIT_STRINGS },
         Limited { first: b"", before: b"@*", after: b"@p", count: 65_536, line: 65_537, which: LIMIT_SECTIONS },
         Limited { first: b"@ @p", before: b"[[[[[[[[[n", after: b"[[[[[[[[[[", count: 50_001, line: 50_002,
@@ -378,24 +265,3 @@ fn measures_strings(rt: HostRuntime) -> Result<(), Fail> {
     );
     Ok(())
 }
-=======
-        Limited { first: b"@ @p", before: b"n", after: b"", count: 65_535, which: LIMIT_NAMES },
-        Limited { first: b"@ ", before: b"@d n", after: b"==", count: 65_535, which: LIMIT_NAMES },
-        Limited { first: b"@ @p", before: b"@<s", after: b".@>", count: 65_535, which: LIMIT_SECTION_NAMES },
-        Limited { first: b"@ @p", before: b"\"s", after: b"\"", count: 32_512, which: LIMIT_STRINGS },
-        Limited { first: b"", before: b"@*", after: b"@p", count: 65_535, which: LIMIT_SECTIONS },
-        Limited { first: b"@ @p", before: b"[[[[[[[[[n", after: b"[[[[[[[[[[", count: 50_000, which: LIMIT_TOKENS },
-    ];
-    for row in rows.iter() {
-        let most = counted(rt.alloc(), row.first, row.before, row.after, row.count)?;
-        assert_eq!(rt;
-            fault_of(scan_text(rt.alloc(), most.bytes(), BY_DEFAULT)),
-            (0, 0, 0)
-        );
-        let more = counted(rt.alloc(), row.first, row.before, row.after, row.count + 1)?;
-        let told = fault_of(scan_text(rt.alloc(), more.bytes(), BY_DEFAULT));
-        assert_eq!(rt; told, (LIMIT_PASSED, row.count as u32 + 2, row.which));
-    }
-    Ok(())
-}
->>>>>>> 52a4fcadd43bac3a879c9e34073f7e4973fd5acc

@@ -4,12 +4,8 @@ ghost use Rattle.wb_base.specs.WorkResult.{IfFault};
 ghost use Rattle.web_lex.specs.Token.{token_of, control};
 ghost use Rattle.web_names.specs.declared.classes.Class.{Class};
 ghost use Rattle.web_scan.specs.Scanned.{place_of_last};
-<<<<<<< HEAD
 ghost use Rattle.web_scan.specs.Texts.{sign_token, token_stored, text_token, stored_since, ended_text, ending_code};
 ghost use Rattle.web_scan.specs.Texts.{macro_text};
-=======
-ghost use Rattle.web_scan.specs.Texts.{sign_token, token_stored, text_token, stored_since, ended_text, ending_code, macro_text};
->>>>>>> 52a4fcadd43bac3a879c9e34073f7e4973fd5acc
 ghost use Rattle.web_scan.specs.inner.Open.{IsOpen};
 
 use crate::scanner::Scanner;
@@ -30,11 +26,7 @@ pub(crate) struct OpenText {
 
 // The code by which a token ends the right side of a definition, if it does.
 pub(crate) fn ending_code(token: Lexed<'_>) -> Option<Code>
-<<<<<<< HEAD
     ensures { result ≡ ending_code (token_of token.entry) }
-=======
-    ensures { result ≡ ending_code (token_of token) }
->>>>>>> 52a4fcadd43bac3a879c9e34073f7e4973fd5acc
 {
     match token {
         Lexed::End => Some(Code::End),
@@ -71,12 +63,8 @@ impl<'l> Scanner<'l> {
         ensures fault { IfFault result (λ fault. (most : ℕ) → length self.old.reading.rest < most
             → macro_text most text.old.class text.old.first self.old ≡ Err fault) }
         ensures first { text.new.first ≡ text.old.first }
-<<<<<<< HEAD
         ensures within { OnOk result (text.new.first ≤ length self.new.web.tokens) }
         ensures not_longer { OnOk result (length self.new.reading.rest ≤ length self.old.reading.rest) }
-=======
-        ensures within { text.new.first ≤ length self.new.web.tokens }
->>>>>>> 52a4fcadd43bac3a879c9e34073f7e4973fd5acc
     {
         loop {
             let token = self.token()?;
@@ -109,7 +97,6 @@ impl<'l> Scanner<'l> {
         token: Lexed<'l>,
     ) -> Result<(), WorkErr>
         requires { IsOpen text.old self.old.web }
-<<<<<<< HEAD
         ensures ok { OnOk result (text_token text.old.class text.old.first (token_of token.entry) self.old
             ≡ Ok self.new) }
         ensures fault { IfFault result (λ fault.
@@ -117,14 +104,6 @@ impl<'l> Scanner<'l> {
         ensures open { OnOk result (IsOpen text.new self.new.web) }
         ensures class { text.new.class ≡ text.old.class }
         ensures first { text.new.first ≡ text.old.first }
-=======
-        ensures ok { OnOk result (text_token text.old.class text.old.first (token_of token) self.old ≡ Ok self.new) }
-        ensures fault { IfFault result (λ fault. text_token text.old.class text.old.first (token_of token) self.old ≡ Err fault) }
-        ensures open { OnOk result (IsOpen text.new self.new.web) }
-        ensures class { text.new.class ≡ text.old.class }
-        ensures first { text.new.first ≡ text.old.first }
-        ensures within { text.new.first ≤ length self.new.web.tokens }
->>>>>>> 52a4fcadd43bac3a879c9e34073f7e4973fd5acc
         ensures reading { self.new.reading ≡ self.old.reading }
     {
         match token {
@@ -146,15 +125,10 @@ impl<'l> Scanner<'l> {
 
     // Stores a token of a text.
     fn store_token(&mut self, class: Class, token: Lexed<'l>) -> Result<(), WorkErr>
-<<<<<<< HEAD
         ensures ok { OnOk result (token_stored class (place_of_last self.old) (token_of token.entry) self.old.web
             ≡ Ok self.new.web) }
         ensures fault { IfFault result (λ fault.
             token_stored class (place_of_last self.old) (token_of token.entry) self.old.web ≡ Err fault) }
-=======
-        ensures ok { OnOk result (token_stored class (place_of_last self.old) (token_of token) self.old.web ≡ Ok self.new.web) }
-        ensures fault { IfFault result (λ fault. token_stored class (place_of_last self.old) (token_of token) self.old.web ≡ Err fault) }
->>>>>>> 52a4fcadd43bac3a879c9e34073f7e4973fd5acc
         ensures grows { length self.old.web.tokens ≤ length self.new.web.tokens }
         ensures reading { self.new.reading ≡ self.old.reading }
     {

@@ -1,9 +1,5 @@
 -- Texts that are read.
-<<<<<<< HEAD
 use Rattle.std.specs.Prelude.{◌≡◌, ◌≤◌, length}
-=======
-use Rattle.std.specs.Prelude.{ℕ, ◌≡◌, ◌≤◌, length}
->>>>>>> 52a4fcadd43bac3a879c9e34073f7e4973fd5acc
 use Rattle.web_scan.specs.declared.texts.OpenText.{OpenText}
 use Rattle.web_scan.specs.Scanned.{Scanned}
 use Rattle.web_scan.specs.Texts.{still_open, stored_since}

@@ -1,24 +1,13 @@
 -- How the parts of a web stand for the lists of the definition. Texts are ranges of the stored tokens.
-<<<<<<< HEAD
 use Rattle.std.specs.Prelude.{ℕ, ◌≡◌, ◌+◌, ◌≤◌, List, map, length, take, drop, All}
-=======
-use Rattle.std.specs.Prelude.{ℕ, ◌≡◌, ◌+◌, ◌<◌, ◌≤◌, List, map, length, take, drop, All}
->>>>>>> 52a4fcadd43bac3a879c9e34073f7e4973fd5acc
 use Rattle.wb_base.specs.declared.tokens.Tok.{Tok}
 use Rattle.web_names.specs.Identifiers.{name_limit}
 use Rattle.web_scan.specs.declared.limits.TheConstants.{TOKEN_LIMIT, SECTION_LIMIT}
 use Rattle.web_scan.specs.declared.parts.Parts.TheInside.{Inside}
-<<<<<<< HEAD
 use Rattle.web_scan.specs.declared.pieces.Span.{Span}
 use Rattle.web_scan.specs.Pieces.{pascal_texts_at, IsPieceWithin}
 use Rattle.web_scan.specs.Scanned.{Scanned}
 use Rattle.web_scan.specs.inner.Under.{AreWithin}
-=======
-use Rattle.web_scan.specs.declared.pieces.Piece.{Piece}
-use Rattle.web_scan.specs.declared.pieces.Span.{Span}
-use Rattle.web_scan.specs.Pieces.{pascal_texts_at}
-use Rattle.web_scan.specs.Scanned.{Scanned}
->>>>>>> 52a4fcadd43bac3a879c9e34073f7e4973fd5acc
 
 -- the text of a macro
 abbrev pub text_at : List Tok → Span → List Tok
@@ -38,20 +27,10 @@ scanned_in parts = record {
   count = parts.count;
 }
 
-<<<<<<< HEAD
 -- the text of a macro is within so many tokens
 abbrev pub IsSpanWithin : ℕ → Span → Type 0
 IsSpanWithin size span = span.first + span.count ≤ size
 
-=======
--- a text is within so many tokens
-abbrev pub IsSpanWithin : ℕ → Span → Type 0
-IsSpanWithin size span = span.first + span.count ≤ size
-
-abbrev pub IsPieceWithin : ℕ → Piece → Type 0
-IsPieceWithin size piece = piece.first + piece.count ≤ size
-
->>>>>>> 52a4fcadd43bac3a879c9e34073f7e4973fd5acc
 -- texts are within the tokens, and all numbers fit
 pub record IsKept (parts : Inside) : Type 0 where
   pub same_options : parts.names.options ≡ parts.options
@@ -61,8 +40,4 @@ pub record IsKept (parts : Inside) : Type 0 where
   pub few_sections : parts.count ≤ SECTION_LIMIT
   pub texts : All (IsSpanWithin (length parts.tokens.items)) parts.texts.items
   pub unnamed : All (IsPieceWithin (length parts.tokens.items)) parts.unnamed.items
-<<<<<<< HEAD
   pub named : AreWithin (length parts.tokens.items) parts.named.items
-=======
-  pub named : All (λ pieces. All (IsPieceWithin (length parts.tokens.items)) pieces.items) parts.named.items
->>>>>>> 52a4fcadd43bac3a879c9e34073f7e4973fd5acc

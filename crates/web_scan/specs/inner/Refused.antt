@@ -9,7 +9,7 @@ use Rattle.web_names.specs.declared.name_errors.NameErr.{NameErr}
 use Rattle.web_names.specs.declared.name_errors.NameErr.TheVariants as name
 use Rattle.web_pool.specs.declared.refusals.PoolErr.{PoolErr}
 use Rattle.web_pool.specs.declared.refusals.PoolErr.TheVariants as string
-use Rattle.web_scan.specs.Limits.{name_fault}
+use Rattle.web_scan.specs.Refusals.{name_fault}
 
 -- a refused name
 abbrev pub work_error_of_name : ℕ → Place → NameErr → WorkErr

@@ -1,14 +1,8 @@
 -- Ranges of texts under names of sections.
-<<<<<<< HEAD
 use Rattle.std.specs.Prelude.{ℕ, zero, suc, List, [], ◌∷◌, ◌++◌, map, All, Vec}
 use Rattle.std.specs.declared.alloc.Global.{Global}
 use Rattle.web_scan.specs.declared.pieces.Piece.{Piece}
 use Rattle.web_scan.specs.Pieces.{IsPieceWithin}
-=======
-use Rattle.std.specs.Prelude.{ℕ, zero, suc, List, [], ◌∷◌, ◌++◌, map, Vec}
-use Rattle.std.specs.declared.alloc.Global.{Global}
-use Rattle.web_scan.specs.declared.pieces.Piece.{Piece}
->>>>>>> 52a4fcadd43bac3a879c9e34073f7e4973fd5acc
 
 -- the ranges under each name
 abbrev pub pieces_in : List (Vec Piece Global) → List (List Piece)
@@ -20,10 +14,7 @@ with_piece_under zero piece [] = (piece ∷ []) ∷ []
 with_piece_under zero piece (pieces ∷ others) = (pieces ++ piece ∷ []) ∷ others
 with_piece_under (suc name) piece [] = [] ∷ with_piece_under name piece []
 with_piece_under (suc name) piece (pieces ∷ others) = pieces ∷ with_piece_under name piece others
-<<<<<<< HEAD
 
 -- all ranges lie within so many tokens
 abbrev pub AreWithin : ℕ → List (Vec Piece Global) → Type 0
 AreWithin size named = All (λ pieces. All (IsPieceWithin size) pieces.items) named
-=======
->>>>>>> 52a4fcadd43bac3a879c9e34073f7e4973fd5acc

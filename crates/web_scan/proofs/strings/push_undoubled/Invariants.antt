@@ -1,8 +1,4 @@
-<<<<<<< HEAD
 use Rattle.std.proofs.Common.{◌≡◌, ◌-◌, ◌++◌, length, drop}
-=======
-use Rattle.std.proofs.Common.{◌≡◌, ◌-◌, ◌≤◌, ◌++◌, length, drop}
->>>>>>> 52a4fcadd43bac3a879c9e34073f7e4973fd5acc
 use Rattle.web_scan.specs.Texts.{undoubled}
 use Rattle.web_scan.proofs.strings.push_undoubled.Given as goal
 

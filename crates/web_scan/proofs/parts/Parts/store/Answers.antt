@@ -1,12 +1,5 @@
-<<<<<<< HEAD
 use Rattle.std.proofs.Common.{◌≡◌, Ok, sym, ap}
-use Rattle.web_scan.specs.Limits.{with_room}
-=======
-use Rattle.std.proofs.Common.{◌≡◌, ◌++◌, ◌∷◌, [], Ok, sym, ap, ◌∙◌}
-use Rattle.wb_base.specs.Steps.{◌>>=◌}
-use Rattle.web_scan.specs.Limits.{with_room}
-use Rattle.web_scan.specs.Scanned.{Scanned}
->>>>>>> 52a4fcadd43bac3a879c9e34073f7e4973fd5acc
+use Rattle.web_scan.specs.Refusals.{with_room}
 use Rattle.web_scan.proofs.PartsLemmas.{scanned_in-push}
 use Rattle.web_scan.proofs.parts.Parts.store.Goals as goal
 
@@ -14,9 +7,5 @@ pub returns-clause-ok : goal.returns-clause-ok
 returns-clause-ok c =
     let room : with_room c.args.place c.args.self.now ≡ Ok c.args.self.now = c.in_ok-check_room.ensures.ok in
     rw (room, ← c.self.view_is)
-<<<<<<< HEAD
     (ap Ok (sym (scanned_in-push c.self.inside c.push.new.self c.args.token c.self.invariant
     c.in_ok-push.ensures.items)))
-=======
-    (ap Ok (sym (scanned_in-push c.self.inside c.push.new.self c.args.token c.self.invariant c.in_ok-push.ensures.items)))
->>>>>>> 52a4fcadd43bac3a879c9e34073f7e4973fd5acc

@@ -1,8 +1,4 @@
-<<<<<<< HEAD
 use Rattle.std.proofs.Common.{◌∙◌}
-=======
-use Rattle.std.proofs.Common.{◌≡◌, ◌∙◌}
->>>>>>> 52a4fcadd43bac3a879c9e34073f7e4973fd5acc
 use Rattle.web_scan.proofs.NamesLemmas.{among_used}
 use Rattle.web_scan.proofs.parts.Parts.store_word.Goals as goal
 

@@ -1,7 +1,6 @@
 -- How names, strings, tokens and sections are refused. The faults and the limits are this project's own. A limit is
--- the
--- last fault that a token shows, and of limits that one token passes the first in this order: names, section names,
--- tokens, strings, sections.
+-- the last fault that a token shows, and of limits that one token passes the first in this order: names, section
+-- names, tokens, strings, sections.
 use Rattle.std.specs.Prelude.{ℕ, pos, ◌+◌, nat_lt, if◌then◌else◌, List, [], ◌∷◌, ◌++◌, length, Result, Ok, Err}
 use Rattle.wb_base.specs.declared.faults.Fault.{Fault}
 use Rattle.wb_base.specs.declared.faults.TheConstants.{POOL_STRING_TOO_LONG, NAME_APPEARED, NAME_DEFINED}
@@ -21,8 +20,7 @@ use Rattle.web_scan.specs.declared.limits.TheConstants.{TOKEN_LIMIT, SECTION_LIM
 use Rattle.web_scan.specs.Scanned.{Scanned}
 
 -- the fault of a refused name, which this place shows; `which` is the limit of names of its kind. No name is refused
--- for
--- want of memory
+-- for want of memory
 abbrev pub name_fault : ℕ → Place → NameErr → Fault
 name_fault which place name.Appeared = fault_at NAME_APPEARED place
 name_fault which place name.Before = fault_at NAME_DEFINED place
@@ -49,8 +47,7 @@ stored place token web =
     with_room place web >>= (λ web. Ok (record web { tokens = web.tokens ++ token ∷ [] }))
 
 -- a string in double quotes in the right side of a numeric definition, by what the pool answers: its number, and the
--- web
--- with the strings of the pool after it
+-- web with the strings of the pool after it
 abbrev pub string_number : Place → Scanned → Result (ℕ × List (List ℕ)) PoolErr → Result (ℕ × Scanned) Fault
 string_number place web (Ok numbered) = Ok (numbered.0, record web { strings = numbered.1 })
 string_number place web (Err TooLong) = Err (fault_at POOL_STRING_TOO_LONG place)

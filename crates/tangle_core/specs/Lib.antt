@@ -1,0 +1,7 @@
+pub mod Emission
+pub mod Job
+pub mod Outcome
+pub mod Tangled
+pub mod TangledRows
+pub mod Work
+pub mod inner
