@@ -146,4 +146,3 @@ unfinished_left name bytes Close x y console ports (n, l) = (
   files_now (Some (with_file name (take n bytes) x)) (Some y) console ports
       (file_left name (take n bytes) x y l),
 )
-
