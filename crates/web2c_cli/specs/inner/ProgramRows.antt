@@ -1,6 +1,6 @@
 -- The program's definition at work: the status and the acts of `answer_of`. That a run which ends by itself (`Ends`)
--- does so by this answer is the lemma `ends_by_answer` of proofs/ProgramLaws; what tangling leaves of short webs is shown
--- in tangle_core's specs/OutcomeRows.
+-- does so by this answer is the lemma `ends_by_answer` of proofs/ProgramLaws; what tangling leaves of short webs is
+-- shown in tangle_core's specs/OutcomeRows.
 use Rattle.std.specs.Prelude.{◌≡◌, ℕ, List, [], ◌∷◌, ◌++◌, codes, Option, Some, None, if◌then◌else◌, refl}
 use Rattle.std.specs.Str.{bytes_eq}
 use Rattle.wb_base.specs.declared.places.FileTag.TheVariants.{Pool}
@@ -43,7 +43,7 @@ pub pool :
     (listing_of (codes "02ab\n*000000000\n") ≡ gives 0 (prints (listing (codes "02ab\n*000000000\n")).text ∷ []))
     × (listing_of (codes "02")
     ≡ gives 1 (prints (listing (codes "02")).text
-    ∷ prints (console_line (fault_at POOL_LINE_TOO_SHORT (record { file = Pool; line = 1 })) (codes "t.pool") ++ 10 ∷ [])
-    ∷ []))
+    ∷ prints (console_line (fault_at POOL_LINE_TOO_SHORT (record { file = Pool; line = 1 })) (codes "t.pool")
+    ++ 10 ∷ []) ∷ []))
 unfolding answer_of request_of parts_of listing read_from
 pool = (refl, refl)
