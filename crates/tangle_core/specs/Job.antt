@@ -62,8 +62,8 @@ pub record Tells (made : Done) (output : Output) : Type 0 where
   pub no_output : made.no_output ≡ output.no_output
 
 -- the job was done, and the rest is left to do; or what comes at its fault; or a call of the shelf that failed, or want
--- of memory, stopped it. Memory is wanted before an act only: it cannot stop the job behind a file that was left up to a
--- fault, whatever comes at the fault.
+-- of memory, stopped it. Memory is wanted before an act only: it cannot stop the job behind a file that was left up to
+-- a fault, whatever comes at the fault.
 abbrev pub Tangles : Job → Going_on → Result Done TangleErr → Option FailedCall → World → World → Type 0
 Tangles job on (Ok made) last before now =
     (output : Output) × (Tells made output × Reaches (tangling job on) (on.at_end output) before now)
