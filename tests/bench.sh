@@ -1,7 +1,7 @@
 #!/usr/bin/env bash
-# Measures web2c beside TeX Live's tangle and pooltype (Debian's texlive-binaries) on made webs: the time of each, best of
-# several runs in turn, their ratio, and the peak memory of web2c (by Debian's package time) beside the size of its input.
-# No part of the gate. It takes sizes in bytes; without any, 300000 1000000 3000000 16000000.
+# Measures web2c beside TeX Live's tangle and pooltype (Debian's texlive-binaries) on made webs: the time of each, best
+# of several runs in turn, their ratio, and the peak memory of web2c (by Debian's package time) beside the size of its
+# input. No part of the gate. It takes sizes in bytes; without any, 300000 1000000 3000000 16000000.
 set -u
 top=$(cd "$(dirname "${BASH_SOURCE[0]}")/.." && pwd)
 folder=$(mktemp -d) && cd "$folder" || exit 3

@@ -1,7 +1,7 @@
 #!/usr/bin/env bash
 # Runs the built program on the worked rows, in a folder of its own: words, web and change file in; status, console,
-# Pascal file and pool out. An old `t.p` and an old `t.pool` stand there before each run. The rows come from the rules in
-# docs/RULES.md and docs/WEB.md.
+# Pascal file and pool out. An old `t.p` and an old `t.pool` stand there before each run. The rows come from the rules
+# in docs/RULES.md and docs/WEB.md.
 set -u
 web2c=$(cd "$(dirname "${BASH_SOURCE[0]}")/.." && pwd)/web2c
 folder=$(mktemp -d) && cd "$folder" || exit 3
@@ -75,10 +75,24 @@ words() {
 }
 
 usage='usage: web2c tangle|pooltype|convert|chain|prun|crun|gen [options] names\n'
-long=$(printf '%3001s' | tr ' ' a)
+# letters LETTER COUNT: a word of so many letters
+letters() { printf "%$2s" | tr ' ' "$1"; }
+# doubling COUNT: the definitions of so many macros, each of which is the next one twice
+doubling() { for ((n = 0; n < $1; n++)); do printf '@d b%d==b%d b%d\\n' $n $((n + 1)) $((n + 1)); done; }
+long=$(letters a 3001)
 row 'tangle t.web' '@ @p program t; begin end.' '' 0 '' '{1:}program t;begin end.{:1}\n'
 row 'tangle t.web' '@ @p aa bb' '' 0 '' '{1:}aa bb{:1}\n'
 row 'tangle t.web' '@ @p x:=1' '' 0 '' '{1:}x:=1{:1}\n'
+row 'tangle t.web' '@ @p x:=a+3-5; y:=2+3*4; z:=1 2' '' 0 '' '{1:}x:=a-2;y:=2+3*4;z:=12{:1}\n'
+row 'tangle t.web' '@ @p x:=3@&4' '' 0 '' '{1:}x:=34{:1}\n'
+row 'tangle t.web' '@ @p aa@\\bb' '' 0 '' '{1:}aa\nbb{:1}\n'
+row 'tangle t.web' '@ @p 1 mm\n@ @d mm==2' '' 0 '' '{1:}12{:1}\n'
+row 'tangle t.web' '@ @d mm=2\n@p 1 mm' '' 1 '! t.p:1: two numbers without a sign (F33)\n' ''
+row 'tangle t.web' '@ @d mm=-3\n@d nn=mm+@'"'"'17+@"F+"a"\n@p x*mm;x-mm;x:=nn' '' 0 '' '{1:}x*(-3);x+3;x:=124{:1}\n'
+row 'tangle t.web' '@ @d nn=nn+1' '' 1 '! t.web:1: bad numeric definition (F17)\n' old
+row 'tangle t.web' '@ @p xx\n@ @d xx=1' '' 1 '! t.web:2: identifier already appeared (F19)\n' old
+row 'tangle t.web' '@ @p x:=7 div 2+1; y:=6 DIV 4-3; z:=7 Mod 2+1' '' 0 '' \
+    '{1:}x:=7 div 2+1;y:=6 DIV 4-3;z:=7 Mod 2+1{:1}\n'
 row 'tangle t.web' '@ @p x\310' '' 1 '! t.web:1: bad byte (F8)\n' old
 row 'tangle t.web' '@ text @p cc' '' 0 '' '{1:}cc{:1}\n'
 row 'tangle t.web' '@ @p aa bb\n@ text @p cc' '' 0 '' '{1:}aa bb{:1}{2:}cc{:2}\n'
@@ -88,6 +102,32 @@ row 'tangle t.web' '@ @p x:=""; y:=""""' '' 0 '' '{1:}x:=256;y:=34{:1}\n' '00\n*
 row 'tangle t.web' '@ @p z:=@$' '' 1 '! t.web:1: check sum left out (F43)\n' old
 row 'tangle t.web' '@ @p "ab"@\\bb @<X@>' '' 1 '! t.p:2: section not present (F29)\n' '{1:}256\n'
 row 'tangle t.web' '@ @d aa==aa\n@p aa' '' 1 '! t.p:1: too many levels (F31)\n' ''
+helpers='@ @d hlp1(#)==p(#);end\n@d hlp2(#)==p(#);hlp1\n@d help2==begin hlp2\n@p help2(a)(b)'
+row 'tangle t.web' "$helpers" '' 0 '' '{1:}begin p(a);p(b);end{:1}\n'
+pair='@ @d ff(#)==gg(#+#)\n@d gg(#)==#*#\n@p ff'
+row 'tangle t.web' "$pair(k)" '' 0 '' '{1:}k+k*k+k{:1}\n'
+row 'tangle t.web' "$pair;k" '' 1 '! t.p:1: no parameter given (F30)\n' ''
+row 'tangle t.web' '@ @d ff(#)==#\n@p ff(ff(ff(k)))' '' 0 '' '{1:}k{:1}\n'
+row 'tangle t.web' '@ @d ab==cd\n@p ab(ab)' '' 0 '' '{1:}cd(cd){:1}\n'
+row 'tangle t.web' '@ @p @<Initialize@>@<Ini...@>\n@ @<Initialize@>=x;' '' 0 '' '{1:}{2:}x;{:2}{2:}x;{:2}{:1}\n'
+row 'tangle t.web' '@ @p @<Initialize@>@<Ini...@>' '' 1 '! t.p:1: section not present (F29)\n' ''
+row 'tangle t.web' '@ @p @<Ini...@>@<Initialize@>' '' 1 '! t.web:1: prefix matches no name (F25)\n' old
+row 'tangle t.web' '@ @p @<Inner part@> @<Initialize@> @<In...@>' '' 1 \
+    '! t.web:1: prefix matches several names (F26)\n' old
+row 'tangle t.web' '@ @p @{@<X y@>@}\n@ @<X y@>=b;' '' 0 '' '{1:}{[2:]b;[:2]}{:1}\n'
+row 'tangle t.web' "@ $(doubling 30)@d b30==\n@p b0" '' 1 '! t.p:1: too many steps (F32)\n' ''
+levels=$(for ((n = 1; n < 200; n++)); do printf '@d c%d==c%d\\n' $n $((n - 1)); done)
+row 'tangle t.web' "@ @d c0==x\n$levels@p c198" '' 0 '' '{1:}x{:1}\n'
+row 'tangle t.web' "@ @d c0==x\n$levels@p c199" '' 1 '! t.p:1: too many levels (F31)\n' ''
+row 'tangle t.web' "@ @p '$(letters b 70)'" '' 0 '' "{1:}\n'$(letters b 70)'\n{:1}\n"
+row 'tangle t.web' "@ @p '$(letters b 71)'" '' 1 '! t.p:1: string too long (F36)\n' ''
+word=$(letters b 50)
+row 'tangle t.web' "@ @p x:=1; $word $(letters c 20)" '' 0 '' "{1:}x:=1;\n$word $(letters c 20)\n{:1}\n"
+row 'tangle t.web' "@ @p x:=1; $word $(letters c 22)" '' 0 '' "{1:}x:=1;$word\n$(letters c 22){:1}\n"
+row 'tangle t.web' "@ @p $word@&$(letters c 23)" '' 1 '! t.p:1: line too long to cut (F37)\n' ''
+row 'tangle t.web' '@ @p foo_bar:=foobar' '' 1 '! t.web:1: identifier conflict (F21)\n' old
+row 'tangle --underline t.web' '@ @p foo_bar:=foobar' '' 0 '' '{1:}foo_bar:=foobar{:1}\n'
+row 'tangle --underline --strict t.web' '@ @p foo_bar:=foobar' '' 1 '! t.web:1: identifier conflict (F21)\n' old
 row 'tangle --uppercase t.web' '@ @p foo:=x' '' 0 '' '{1:}FOO:=X{:1}\n'
 row 'tangle t.web --underline' '@ @p a_b:=c' '' 0 '' '{1:}a_b:=c{:1}\n'
 row 'tangle --strict t.web' '@ @p foo_bar:=FOOBAR' '' 1 '! t.web:1: identifier conflict (F21)\n' old
