@@ -94,7 +94,7 @@ mutual
   pub data Expr : Type 0 where
     sum : Sum → Expr
     relation : Sum → Lined Relation → Sum → Expr
-    membership : Sum → ℕ → Expr
+    membership : Expr → ℕ → Expr
 
   pub data Sum : Type 0 where
     first_term : Term → Sum

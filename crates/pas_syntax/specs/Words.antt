@@ -158,7 +158,7 @@ abbrev mutual
   pub depth_of : Expr → ℕ
   depth_of (tree.sum s) = sum_depth s
   depth_of (tree.relation left op right) = max (sum_depth left) (sum_depth right) + 1
-  depth_of (tree.membership left line) = sum_depth left
+  depth_of (tree.membership left line) = depth_of left
 
   pub sum_depth : Sum → ℕ
   sum_depth (tree.first_term t) = term_depth t
@@ -197,7 +197,7 @@ abbrev mutual
   expr_words n a (tree.relation left op right) =
       sum_words n a left ++ operator n (a + 1 + sum_depth left) (relation_kind op.item) op.line
       ∷ sum_words n (a + 1) right
-  expr_words n a (tree.membership left line) = sum_words n a left ++ shows n k.In line SETS ∷ []
+  expr_words n a (tree.membership left line) = expr_words n a left ++ shows n k.In line SETS ∷ []
 
   pub sum_words : ℕ → ℕ → Sum → List Word
   sum_words n a (tree.first_term t) = term_words n a t

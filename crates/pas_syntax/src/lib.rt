@@ -3,6 +3,7 @@
 
 mod limits;
 mod operators;
+pub mod tree;
 
 pub use limits::NESTING_LIMIT;
 pub use operators::{Adding, Multiplying, Relation, Sign, Way};
