@@ -1,0 +1,83 @@
+//! Programs.
+
+use crate::programs::program_tree;
+use crate::reader::Reader;
+use crate::regions::part_behind;
+use crate::spellings::spellings;
+use crate::stop::Stop;
+use crate::tree::{ProgramTree, Span};
+use pas_tokens::Cursor;
+use std::alloc::Global;
+use wb_base::faults::{PASCAL_LEFT_OUT, PASCAL_SYNTAX};
+use wb_base::{Fault, FileTag, Text, WorkErr};
+
+/// A program that a text means, and the spellings of its names and strings.
+#[derive(Drop)]
+pub struct Program {
+    spellings: Text,
+    tree: ProgramTree,
+}
+
+impl Program {
+    /// The tree.
+    pub fn tree(&self) -> &ProgramTree {
+        &self.tree
+    }
+
+    /// A name in small letters, or what stands between the quotes of a string.
+    pub fn spelling(&self, span: Span) -> &[u8] {
+        let bytes = self.spellings.bytes();
+        let rest = &bytes[bytes.len().min(span.first as usize)..];
+        &rest[..rest.len().min(span.count as usize)]
+    }
+}
+
+/// Reads the program that a text means, by the grammar of ISO 7185 in this project's profile.
+///
+/// # Errors
+///
+/// The fault of the first token that shows one: 28 where the text has more than 16,777,216 bytes, at line 0; 50, 51 or 53
+/// of the tokens, which are cut off first; else 52 for a token that may not stand there, or 53 where it shows a part of
+/// Pascal that is left out or passes a limit of nesting, at the line of the token.
+pub fn parse(alloc: Global, text: &[u8]) -> Result<Program, WorkErr> {
+    let spellings = spellings(alloc, Cursor::new(text)?)?;
+    let tree = tree_of(alloc, text, spellings.bytes())?;
+    Ok(Program { spellings, tree })
+}
+
+// Reads the tree that a text means, of which these are the spellings.
+fn tree_of(alloc: Global, text: &[u8], spellings: &[u8]) -> Result<ProgramTree, WorkErr> {
+    let mut reader = Reader::new(Cursor::new(text)?, spellings);
+    match program_tree(alloc, &mut reader) {
+        Ok(tree) => Ok(tree),
+        Err(Stop::OutOfMemory) => Err(WorkErr::OutOfMemory),
+        Err(Stop::LeftOut(part)) => Err(WorkErr::Fault(left_out(reader.line(), part))),
+        Err(Stop::Misplaced) => {
+            let part = part_behind(Cursor::new(text)?, reader.taken());
+            Err(WorkErr::Fault(misplaced(reader.line(), part)))
+        }
+    }
+}
+
+// A part of Pascal that is left out.
+fn left_out(line: u32, which: u8) -> Fault {
+    Fault {
+        code: PASCAL_LEFT_OUT,
+        file: FileTag::Pas,
+        line,
+        which,
+    }
+}
+
+// A token that may not stand where it stands, and the part of Pascal that it shows there, if any.
+fn misplaced(line: u32, part: Option<u8>) -> Fault {
+    match part {
+        Some(which) => left_out(line, which),
+        None => Fault {
+            code: PASCAL_SYNTAX,
+            file: FileTag::Pas,
+            line,
+            which: 0,
+        },
+    }
+}
