@@ -5,7 +5,9 @@ use crate::depth::{Deep, Depth};
 use crate::operators::{Adding, Multiplying, Relation};
 use crate::reader::Reader;
 use crate::stop::Stop;
-use crate::tree::{Expr, Exprs, Factor, Ident, Lined, MoreExpr, Selector, Sum, Term, Variable};
+use crate::tree::{
+    Expr, Exprs, Factor, FunctionCall, Ident, Lined, MoreExpr, Selector, Sum, Term, Variable,
+};
 use pas_tokens::Kind;
 use sqlite_items::{Boxed, Items};
 use std::alloc::Global;
@@ -206,24 +208,43 @@ fn named_factor(alloc: Global, reader: &mut Reader<'_>, depth: Depth) -> Result<
     let name = reader.ident()?;
     match reader.kind() {
         Kind::LeftParenthesis => {
-            let inner = depth.in_form()?;
-            let opened = reader.pass();
-            let arguments = exprs(alloc, reader, inner)?;
-            let closed = reader.take(Kind::RightParenthesis)?;
-            let all = Boxed::new(alloc, arguments.tree)?;
+            let found = function_call(alloc, reader, depth, name)?;
             Ok(Deep {
-                tree: Factor::Call(name, opened, all, closed),
-                depth: arguments.depth,
+                tree: Factor::Call(Boxed::new(alloc, found.tree)?),
+                depth: found.depth,
             })
         }
         _ => {
-            let selected = variable(alloc, reader, depth, name)?;
+            let found = variable(alloc, reader, depth, name)?;
             Ok(Deep {
-                tree: Factor::Variable(selected.tree),
-                depth: selected.depth,
+                tree: Factor::Variable(Boxed::new(alloc, found.tree)?),
+                depth: found.depth,
             })
         }
     }
+}
+
+// Reads `"(" expr {"," expr} ")"` behind the name of a function.
+#[cycle(expression)]
+fn function_call(
+    alloc: Global,
+    reader: &mut Reader<'_>,
+    depth: Depth,
+    name: Ident,
+) -> Result<Deep<FunctionCall>, Stop> {
+    let inner = depth.in_form()?;
+    let opened = reader.pass();
+    let arguments = exprs(alloc, reader, inner)?;
+    let closed = reader.take(Kind::RightParenthesis)?;
+    Ok(Deep {
+        tree: FunctionCall {
+            name,
+            opened,
+            arguments: arguments.tree,
+            closed,
+        },
+        depth: arguments.depth,
+    })
 }
 
 // Reads `{"[" expr {"," expr} "]" | "." id | "^"}` behind a name.

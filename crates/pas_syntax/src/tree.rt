@@ -217,9 +217,23 @@ pub enum Factor {
     /// `not`, with its line, before a factor.
     Negated(u32, Boxed<Factor>),
     /// A variable, or the name of a constant or a function.
-    Variable(Variable),
-    /// The call of a function: its name, and its arguments between parentheses, with their lines.
-    Call(Ident, u32, Boxed<Exprs>, u32),
+    Variable(Boxed<Variable>),
+    /// The call of a function.
+    Call(Boxed<FunctionCall>),
+}
+
+/// `id "(" expr {"," expr} ")"`
+#[cycle(expression)]
+#[derive(Drop)]
+pub struct FunctionCall {
+    /// The name of the function.
+    pub name: Ident,
+    /// The line of `(`.
+    pub opened: u32,
+    /// The arguments.
+    pub arguments: Exprs,
+    /// The line of `)`.
+    pub closed: u32,
 }
 
 /// `id {"[" expr {"," expr} "]" | "." id | "^"}`
