@@ -5,3 +5,4 @@ pub mod Nearest
 pub mod Regions
 pub mod Parse
 pub mod ParseRows
+pub mod inner

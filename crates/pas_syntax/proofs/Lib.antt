@@ -1,0 +1,4 @@
+pub mod ProgLemmas
+pub mod Good
+pub mod Judged
+pub mod TurnLemmas
