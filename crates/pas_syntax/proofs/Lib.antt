@@ -2,3 +2,5 @@ pub mod ProgLemmas
 pub mod Good
 pub mod Judged
 pub mod TurnLemmas
+pub mod WordLemmas
+pub mod ExprReads

@@ -86,14 +86,14 @@ fn first_term(alloc: Global, reader: &mut Reader<'_>, depth: Depth) -> Result<De
             let sign = reader.lined(sign);
             let first = term(alloc, reader, inner)?;
             Ok(Deep {
-                tree: Sum::Signed(sign, first.tree),
+                tree: Sum::SignedTerm(sign, first.tree),
                 depth: first.depth + 1,
             })
         }
         None => {
             let first = term(alloc, reader, depth)?;
             Ok(Deep {
-                tree: Sum::First(first.tree),
+                tree: Sum::FirstTerm(first.tree),
                 depth: first.depth,
             })
         }
@@ -109,7 +109,7 @@ fn added(
 ) -> Result<Deep<Sum>, Stop> {
     Ok(Deep {
         depth: left.depth.max(right.depth) + 1,
-        tree: Sum::More(
+        tree: Sum::MoreTerms(
             Boxed::new(alloc, left.tree)?,
             adding,
             Boxed::new(alloc, right.tree)?,
@@ -122,7 +122,7 @@ fn added(
 fn term(alloc: Global, reader: &mut Reader<'_>, depth: Depth) -> Result<Deep<Term>, Stop> {
     let first = factor(alloc, reader, depth)?;
     let mut left = Deep {
-        tree: Term::First(first.tree),
+        tree: Term::FirstFactor(first.tree),
         depth: first.depth,
     };
     'more: loop {
@@ -158,7 +158,7 @@ fn multiplied(
 ) -> Result<Deep<Term>, Stop> {
     Ok(Deep {
         depth: left.depth.max(right.depth) + 1,
-        tree: Term::More(
+        tree: Term::MoreFactors(
             Boxed::new(alloc, left.tree)?,
             multiplying,
             Boxed::new(alloc, right.tree)?,

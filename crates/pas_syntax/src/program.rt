@@ -1,35 +1,28 @@
 //! Programs.
+ghost use Rattle.std.specs.Prelude.{IfOk};
+ghost use Rattle.wb_base.specs.WorkResult.{IfFault};
+ghost use Rattle.pas_syntax.specs.Parse.{Means, IsFaultOf};
+ghost use Rattle.pas_syntax.specs.ProgramViews.{program_in};
 
 use crate::programs::program_tree;
 use crate::reader::Reader;
 use crate::regions::part_behind;
 use crate::spellings::spellings;
 use crate::stop::Stop;
-use crate::tree::{ProgramTree, Span};
+use crate::tree::ProgramTree;
 use pas_tokens::Cursor;
 use std::alloc::Global;
 use wb_base::faults::{PASCAL_LEFT_OUT, PASCAL_SYNTAX};
 use wb_base::{Fault, FileTag, Text, WorkErr};
 
-/// A program that a text means, and the spellings of its names and strings.
+/// A program, and the spellings of its names and strings.
 #[derive(Drop)]
 pub struct Program {
-    spellings: Text,
-    tree: ProgramTree,
-}
-
-impl Program {
+    /// The spellings of all names, in small letters, and of all strings, one after the other. The spans of the tree are
+    /// parts of them.
+    pub spellings: Text,
     /// The tree.
-    pub fn tree(&self) -> &ProgramTree {
-        &self.tree
-    }
-
-    /// A name in small letters, or what stands between the quotes of a string.
-    pub fn spelling(&self, span: Span) -> &[u8] {
-        let bytes = self.spellings.bytes();
-        let rest = &bytes[bytes.len().min(span.first as usize)..];
-        &rest[..rest.len().min(span.count as usize)]
-    }
+    pub tree: ProgramTree,
 }
 
 /// Reads the program that a text means, by the grammar of ISO 7185 in this project's profile.
@@ -39,7 +32,10 @@ impl Program {
 /// The fault of the first token that shows one: 28 where the text has more than 16,777,216 bytes, at line 0; 50, 51 or 53
 /// of the tokens, which are cut off first; else 52 for a token that may not stand there, or 53 where it shows a part of
 /// Pascal that is left out or passes a limit of nesting, at the line of the token.
-pub fn parse(alloc: Global, text: &[u8]) -> Result<Program, WorkErr> {
+pub fn parse(alloc: Global, text: &[u8]) -> Result<Program, WorkErr>
+    ensures ok { IfOk result (λ program. Means text.now (program_in program.spellings program.tree)) }
+    ensures fault { IfFault result (λ fault. IsFaultOf text.now fault) }
+{
     let spellings = spellings(alloc, Cursor::new(text)?)?;
     let tree = tree_of(alloc, text, spellings.bytes())?;
     Ok(Program { spellings, tree })

@@ -187,11 +187,11 @@ pub enum Expr {
 #[derive(Drop)]
 pub enum Sum {
     /// A term alone.
-    First(Term),
+    FirstTerm(Term),
     /// A term behind a sign.
-    Signed(Lined<Sign>, Term),
+    SignedTerm(Lined<Sign>, Term),
     /// A sum, and a term behind an operator.
-    More(Boxed<Sum>, Lined<Adding>, Boxed<Term>),
+    MoreTerms(Boxed<Sum>, Lined<Adding>, Boxed<Term>),
 }
 
 /// `factor {("*"|"div"|"mod"|"and") factor}`
@@ -199,9 +199,9 @@ pub enum Sum {
 #[derive(Drop)]
 pub enum Term {
     /// A factor alone.
-    First(Factor),
+    FirstFactor(Factor),
     /// A term, and a factor behind an operator.
-    More(Boxed<Term>, Lined<Multiplying>, Boxed<Factor>),
+    MoreFactors(Boxed<Term>, Lined<Multiplying>, Boxed<Factor>),
 }
 
 /// `number | string | "(" expr ")" | "not" factor | var | id "(" expr {"," expr} ")"`
