@@ -2,10 +2,10 @@ This change file adapts count.web: digits and hyphens are letters of words, the
 answers are in German, and the bars are shorter.
 
 @x
-@d is_letter(#)==(((#>='a')and(#<='z'))or((#>='A')and(#<='Z'))or(#='''''))
+@d is_letter(#)==(((#>='a')and(#<='z'))or((#>='A')and(#<='Z'))or(#=''''))
 @y
 @d is_letter(#)==(((#>='a')and(#<='z'))or((#>='A')and(#<='Z'))or
-  ((#>='0')and(#<='9'))or(#='-')or(#='''''))
+  ((#>='0')and(#<='9'))or(#='-')or(#=''''))
 @z
 
 @x

@@ -1,7 +1,7 @@
 #!/usr/bin/env bash
 # Measures web2c beside TeX Live's tangle and pooltype (Debian's texlive-binaries) on made webs: the time of each, best of
-# several runs in turn, their ratio, and the peak memory of web2c beside the size of its input. No part of the gate.
-# It takes sizes in bytes; without any, 300000 1000000 3000000 16000000.
+# several runs in turn, their ratio, and the peak memory of web2c (by Debian's package time) beside the size of its input.
+# No part of the gate. It takes sizes in bytes; without any, 300000 1000000 3000000 16000000.
 set -u
 top=$(cd "$(dirname "${BASH_SOURCE[0]}")/.." && pwd)
 folder=$(mktemp -d) && cd "$folder" || exit 3
@@ -22,14 +22,8 @@ best() { # RUNS WORDS...
     echo "$least"
 }
 
-# The peak memory of a command in KiB, from the process's own status when it ends.
-peak() { # WORDS...
-    python3 - "$@" <<'PY'
-import resource, subprocess, sys
-subprocess.run(sys.argv[1:], stdout=subprocess.DEVNULL)
-print(resource.getrusage(resource.RUSAGE_CHILDREN).ru_maxrss)
-PY
-}
+# The peak memory of a command in KiB.
+peak() { /usr/bin/time -f %M -o memory "$@" >output 2>&1; tail -n 1 memory; } # WORDS...
 
 # A line of the table: what was done, the sizes of input and output, both times and their ratio, and the memory.
 row() { # NAME INPUT OUTPUT OURS THEIRS PEAK

@@ -2,7 +2,7 @@
 # documentation; each section has macros, a Pascal text with names, numbers and uses of sections, and now and then a
 # string of the pool. Names recur, as they do in real webs.
 BEGIN {
-  sections = int(bytes / 800); if (sections < 1) sections = 1
+  sections = int(bytes / 860); if (sections < 1) sections = 1
   names = sections < 2000 ? sections : 2000
   print "@* A web for measurements. Nothing that it computes is of any use."
   print "@d incr(#)==#:=#+1"
@@ -27,9 +27,9 @@ BEGIN {
     k = (n - 1) % names + 1
     printf "@<Part %d of the work@>=\n", k
     printf "step_%d; incr(b_count);\n", k
-    printf "if (a_count>limit_%d) and (b_count<=%d) then\n", k, n
-    printf "  begin total_of_all:=total_of_all+a_count*2-%d+3; print(total_of_all:1);\n", n
-    if (n % 5 == 0 && n <= 4000) printf "  incr(total_of_all); a_count:=\"the string number %d\";\n", n
-    printf "  while b_count<>%d do incr(b_count);\n  end;\n", n
+    printf "if a_count>limit_%d then {there is more to count in part %d}\n", k, n
+    printf "  begin total_of_all:=total_of_all+a_count*2-%d+3; {it is no prime, and it need not be}\n", n
+    if (n % 5 == 0 && n <= 4000) printf "  a_count:=\"the string number %d\"; {and that is told}\n", n
+    printf "  print(total_of_all:1); {which is what this part has come to}\n  end;\n"
   }
 }

@@ -81,20 +81,14 @@ const NUMERIC: &[u8] = b"@ @d mm=-3\n@d nn=mm+@'17+@\"F+\"a\"\n@p x*mm;x-mm;x:=n
 fn expands(rt: HostRuntime) -> Result<(), Fail> {
     #[rattlefmt::skip]
     let rows = [
-        Row { web: b"@ @d aa==b", items: b"", fault: None },
         Row { web: b"@ @p aa@\\bb 'c'@=d@>@&:=7", items: b"{1:aa/bb'c'd&:=7:1}", fault: None },
         Row { web: HELPERS, items: b"{1:beginp(a);p(b);end:1}", fault: None },
         Row { web: b"@ @d ff(#)==gg(#+#)\n@d gg(#)==#*#\n@p ff(k)", items: b"{1:k+k*k+k:1}", fault: None },
         Row { web: b"@ @d ff(#)==#\n@p ff;k", items: b"{1:", fault: Some(ExpandErr::NoParameter) },
-        Row { web: b"@ @d ff(#)==#\n@p ff(ff(ff(k)))", items: b"{1:k:1}", fault: None },
         Row { web: b"@ @d ff(#)==#\n@p @<A@>(k)\n@ @<A@>=ff", items: b"{1:{2:", fault: Some(ExpandErr::NoParameter) },
-        Row { web: b"@ @d aa==aa\n@p aa", items: b"{1:", fault: Some(ExpandErr::Levels) },
         Row { web: b"@ @p @<Begin@>@<Be...@>\n@ @<Begin@>=x;", items: b"{1:{2:x;:2}{2:x;:2}:1}", fault: None },
         Row { web: b"@ @p @<Initialize@>@<Ini...@>", items: b"{1:", fault: Some(ExpandErr::NotPresent) },
-        Row { web: b"@ @d ab==cd\n@p ab(ab)", items: b"{1:cd(cd):1}", fault: None },
         Row { web: NUMERIC, items: b"{1:x*<-3>;x-<-3>;x:=<124>:1}", fault: None },
-        Row { web: b"@ @p @{@<X y@>@}\n@ @<X y@>=b;", items: b"{1:@{{2:b;:2}@}:1}", fault: None },
-        Row { web: b"@ @p \"ab\" \"A\"", items: b"{1:<256><65>:1}", fault: None },
     ];
     for (index, row) in rows.iter().enumerate() {
         let web = scan_text(rt.alloc(), row.web)?;
@@ -110,9 +104,11 @@ fn expands(rt: HostRuntime) -> Result<(), Fail> {
 fn chain(alloc: Global, used: i64) -> Result<Text, OutOfMemory> {
     let mut text = Text::new(alloc);
     text.push_all(b"@ @d c0==x\n")?;
+    let mut before = 0;
     for number in 1..200 {
         push_marked(&mut text, b"@d c", number, b"==c")?;
-        push_marked(&mut text, b"", number - 1, b"\n")?;
+        push_marked(&mut text, b"", before, b"\n")?;
+        before = number;
     }
     push_marked(&mut text, b"@p c", used, b"")?;
     Ok(text)

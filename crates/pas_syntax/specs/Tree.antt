@@ -94,12 +94,12 @@ mutual
   pub data Expr : Type 0 where
     sum : Sum → Expr
     relation : Sum → Lined Relation → Sum → Expr
-    membership : Expr → ℕ → Expr
 
   pub data Sum : Type 0 where
     first_term : Term → Sum
     signed_term : Lined Sign → Term → Sum
     more_terms : Sum → Lined Adding → Term → Sum
+    membership : Sum → ℕ → Sum
 
   pub data Term : Type 0 where
     first_factor : Factor → Term

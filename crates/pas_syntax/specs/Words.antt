@@ -158,12 +158,12 @@ abbrev mutual
   pub depth_of : Expr → ℕ
   depth_of (tree.sum s) = sum_depth s
   depth_of (tree.relation left op right) = max (sum_depth left) (sum_depth right) + 1
-  depth_of (tree.membership left line) = depth_of left
 
   pub sum_depth : Sum → ℕ
   sum_depth (tree.first_term t) = term_depth t
   sum_depth (tree.signed_term lead t) = term_depth t + 1
   sum_depth (tree.more_terms left op t) = max (sum_depth left) (term_depth t) + 1
+  sum_depth (tree.membership left line) = sum_depth left
 
   pub term_depth : Term → ℕ
   term_depth (tree.first_factor f) = factor_depth f
@@ -197,7 +197,6 @@ abbrev mutual
   expr_words n a (tree.relation left op right) =
       sum_words n a left ++ operator n (a + 1 + sum_depth left) (relation_kind op.item) op.line
       ∷ sum_words n (a + 1) right
-  expr_words n a (tree.membership left line) = expr_words n a left ++ shows n k.In line SETS ∷ []
 
   pub sum_words : ℕ → ℕ → Sum → List Word
   sum_words n a (tree.first_term t) = term_words n a t
@@ -206,6 +205,7 @@ abbrev mutual
   sum_words n a (tree.more_terms left op t) =
       sum_words n a left ++ operator n (a + 1 + sum_depth left) (adding_kind op.item) op.line
       ∷ term_words n (a + 1) t
+  sum_words n a (tree.membership left line) = sum_words n a left ++ shows n k.In line SETS ∷ []
 
   pub term_words : ℕ → ℕ → Term → List Word
   term_words n a (tree.first_factor f) = factor_words n a f

@@ -1,6 +1,7 @@
 -- From what the folder and the packer say of an item, or of the end, to what is said of the lines.
 use Rattle.std.proofs.Common.{◌≡◌, ℕ, ◌+◌, ◌*◌, ◌<◌, ◌≤◌, List, [], ◌∷◌, ◌++◌, length, take, Option, Some, None}
-use Rattle.std.proofs.Common.{Result, OnOk, Ok, Err, refl, sym, ◌∙◌, ap, subst, append_assoc, arith, length-append, All, ◌⊎◌, inl, inr}
+use Rattle.std.proofs.Common.{Result, OnOk, Ok, Err, refl, sym, ◌∙◌, ap, subst, append_assoc, arith, length-append, All}
+use Rattle.std.proofs.Common.{◌⊎◌, inl, inr}
 use Rattle.std.proofs.lemmas.List.{append-nil}
 use Rattle.std.proofs.lemmas.List.Elements.{All-tail}
 use Rattle.std.specs.Prelude.{option_map}
@@ -19,7 +20,8 @@ use Rattle.tangle_out.specs.declared.pieces.OutErr.{OutErr}
 use Rattle.tangle_out.specs.declared.pieces.OutErr.TheVariants.{Fault, Failed}
 use Rattle.tangle_out.specs.Pieces.{Piece}
 use Rattle.tangle_out.specs.Folding.{Folded, folded, folded_whole}
-use Rattle.tangle_out.specs.Folder.{FolderState, HasRoomFor, IsShort, Adds, Shows, AddsAtEnd, ShowsAtEnd, Stands as FolderStands}
+use Rattle.tangle_out.specs.Folder.{FolderState, HasRoomFor, IsShort, Adds, Shows, AddsAtEnd, ShowsAtEnd}
+use Rattle.tangle_out.specs.Folder.{Stands as FolderStands}
 use Rattle.tangle_out.specs.Packing.{Packed, text_of_lines, and_then, with_pieces, nothing_packed, finished_lines}
 use Rattle.tangle_out.specs.Packing.{packed_lines, forced_line, Finishes, EndFinishes}
 use Rattle.tangle_out.specs.Packer.{PackerState, Stands as PackerStands}
@@ -63,7 +65,8 @@ prefix-front start now front lines (more, is) prefix =
 
 -- ---- pieces
 
-pub Sent-new : (packer : PackerState) (start : Option (List ℕ)) → PackerStands WIDTH packer [] → Sent packer [] start start
+pub Sent-new : (packer : PackerState) (start : Option (List ℕ)) → PackerStands WIDTH packer []
+    → Sent packer [] start start
 Sent-new packer start stands = record { stands = stands; told = gains_nothing start }
 
 -- a piece was packed

@@ -1,6 +1,8 @@
 -- What a sink over a file keeps in mind, from one write to the next; and what that tells in the end.
-use Rattle.std.proofs.Common.{◌≡◌, ◌≢◌, ◌⊎◌, ℕ, ◌+◌, ◌<◌, ◌≤◌, zero, suc, List, [], ◌++◌, take, length, Bool, true, false}
-use Rattle.std.proofs.Common.{Option, Some, None, MatchOption, IfSome, is_some, Result, Ok, Err, OnOk, OnErr, is_err, refl, sym, ◌∙◌, ap, subst}
+use Rattle.std.proofs.Common.{◌≡◌, ◌≢◌, ◌⊎◌, ℕ, ◌+◌, ◌<◌, ◌≤◌, zero, suc, List, [], ◌++◌, take, length, Bool, true}
+use Rattle.std.proofs.Common.{false}
+use Rattle.std.proofs.Common.{Option, Some, None, MatchOption, IfSome, is_some, Result, Ok, Err, OnOk, OnErr, is_err}
+use Rattle.std.proofs.Common.{refl, sym, ◌∙◌, ap, subst}
 use Rattle.std.proofs.Common.{arith, inl, inr, min}
 use Rattle.std.proofs.lemmas.List.{take_all}
 use Rattle.wb_ports.specs.declared.shelf.FailedCall.{FailedCall}
@@ -68,7 +70,8 @@ pub keeps-written : (limit : ℕ) (seen : Seen) (shelf next : ShelfSeen) (copy n
     → (copy.wanted ≡ true → next_copy.refused ≡ false → (bytes : List ℕ) → copy.kept ≡ take limit bytes
     → next_copy.kept ≡ take limit (bytes ++ piece))
     → KeepsInMind limit seen next next_copy failures
-keeps-written limit seen shelf next copy next_copy failures piece keeps files name faults last unwanted wanted refused kept =
+keeps-written limit seen shelf next copy next_copy failures piece keeps files name faults last unwanted wanted refused
+    kept =
     record {
       told = told_same _ shelf.files next.files files ∙ keeps.told;
       same_name = λ all is.
@@ -267,7 +270,8 @@ pub Fills-told : (limit : ℕ) (seen : Seen) (files : Option Files) (name : List
     → (is_failed ≡ false → Gains text (held_by files name) (held_by next.files next.open_name))
     → (is_failed ≡ true → GainsPrefix text (held_by files name) (held_by next.files next.open_name))
     → Fills text is_failed (shelf_now files name faults last) next
-Fills-told limit seen files name faults last copy next next_copy failures text is_failed kept is empty counts gains prefix =
+Fills-told limit seen files name faults last copy next next_copy failures text is_failed kept is empty counts gains
+    prefix =
     let keeps : KeepsInMind limit (seen_now files name faults last copy) next next_copy failures =
     subst (λ (s : Seen). KeepsInMind limit s next next_copy failures) is kept in
     record {

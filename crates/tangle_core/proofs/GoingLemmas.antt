@@ -12,7 +12,7 @@ use Rattle.tangle_core.specs.declared.job.TangleErr.{TangleErr}
 use Rattle.tangle_core.specs.declared.job.TangleErr.TheVariants.{Fault, Failed, OutOfMemory}
 use Rattle.tangle_core.specs.Work.{Work, leaves, loads, does, World, with_file, IsNow, by_shelf, by_memory}
 use Rattle.tangle_core.specs.Work.{StopsAct, Ends, Stops}
-use Rattle.tangle_core.specs.Job.{Reaches, Going_on, reporting, world_of}
+use Rattle.tangle_core.specs.Job.{Reaches, Going_on, world_of}
 use Rattle.tangle_core.specs.inner.Going.{Goes, Loading}
 use Rattle.tangle_core.specs.inner.Refusing.{by_port}
 use Rattle.tangle_core.specs.inner.Writing.{LeavesFile, WritesUnfinished}
@@ -62,7 +62,7 @@ pub goes_on : (T : Type 0) (whole work : Work) (on : Going_on) (rest : T → Wor
     → Goes whole on rest result last u w
 goes_on T whole work on rest (Ok value) last u v w first goes = reaches_then whole work (rest value) u v w first goes
 goes_on T whole work on rest (Err (Fault fault)) last u v w first goes =
-    reaches_then whole work (reporting on fault) u v w first goes
+    reaches_then whole work (on.at_fault fault) u v w first goes
 goes_on T whole work on rest (Err Failed) last u v w first goes = first.stops (by_shelf last) w goes
 goes_on T whole work on rest (Err OutOfMemory) last u v w first goes = first.stops by_memory w goes
 

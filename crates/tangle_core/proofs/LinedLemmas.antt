@@ -1,6 +1,7 @@
 -- The lines of pieces, and of more pieces behind them.
 use Rattle.std.proofs.Common.{◌≡◌, ℕ, ◌+◌, ◌-◌, ◌<◌, ◌≤◌, Bool, true, false, if◌then◌else◌, nat_le, List, [], ◌∷◌, ◌++◌}
-use Rattle.std.proofs.Common.{length, drop, Option, Some, None, Result, Ok, Err, refl, sym, ◌∙◌, ap, subst, append_assoc}
+use Rattle.std.proofs.Common.{length, drop, Option, Some, None, Result, Ok, Err, refl, sym, ◌∙◌, ap, subst}
+use Rattle.std.proofs.Common.{append_assoc}
 use Rattle.std.proofs.Common.{arith, length-append, slice_range}
 use Rattle.std.proofs.lemmas.List.{append-nil}
 use Rattle.tangle_out.specs.declared.packing.TheConstants.{WIDTH}
@@ -135,7 +136,8 @@ with_piece-grows packed next piece is = chosen (is_forced_line piece.kind) is
 -- no more lines are finished than pieces came
 pub lines-few : (packed next : Packed) (pieces : List Piece) → with_pieces WIDTH packed pieces ≡ Ok next
     → length next.lines ≤ length packed.lines + length pieces
-lines-few packed next [] is = let e : length packed.lines ≡ length next.lines = ap (λ (r : Result Packed ℕ). counted r) is in omega arith
+lines-few packed next [] is =
+    let e : length packed.lines ≡ length next.lines = ap (λ (r : Result Packed ℕ). counted r) is in omega arith
   where
     counted : Result Packed ℕ → ℕ
     counted (Ok p) = length p.lines
@@ -200,8 +202,8 @@ lined_from-front packed (piece ∷ pieces) more =
 pub lined-front : (pieces more : List Piece) → Front (lined pieces).lines (lined (pieces ++ more)).lines
 lined-front pieces more = lined_from-front nothing_packed pieces more
 
-lined_from-stays : (packed : Packed) (pieces more : List Piece) (code : ℕ) → (lined_from packed pieces).fault ≡ Some code
-    → lined_from packed (pieces ++ more) ≡ lined_from packed pieces
+lined_from-stays : (packed : Packed) (pieces more : List Piece) (code : ℕ)
+    → (lined_from packed pieces).fault ≡ Some code → lined_from packed (pieces ++ more) ≡ lined_from packed pieces
 lined_from-stays packed [] more code is = absurd (cc)
 lined_from-stays packed (piece ∷ pieces) more code is =
     step (with_piece WIDTH packed piece) (λ p. lined_from-stays p pieces more code) is

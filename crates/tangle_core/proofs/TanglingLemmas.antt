@@ -1,5 +1,6 @@
 -- The parts of tangling: what is left to do once the web is known, or its fault.
-use Rattle.std.proofs.Common.{◌≡◌, ◌≢◌, ◌∙◌, ℕ, List, [], ◌∷◌, ◌++◌, length, Option, Some, None, Result, Ok, Err, refl, sym, ap}
+use Rattle.std.proofs.Common.{◌≡◌, ◌≢◌, ◌∙◌, ℕ, List, [], ◌∷◌, ◌++◌, length, Option, Some, None, Result, Ok, Err, refl}
+use Rattle.std.proofs.Common.{sym, ap}
 use Rattle.std.proofs.Common.{subst, IsErrAnd, IfSome, OnErr, inl, inr, ◌⊎◌, codes, arith, length-append, ◌==◌, ◌+◌}
 use Rattle.wb_base.specs.declared.faults.Fault.{Fault as Flaw}
 use Rattle.wb_base.specs.declared.faults.WorkErr.{WorkErr}
@@ -24,14 +25,14 @@ use Rattle.tangle_core.specs.declared.job.TangleErr.TheVariants.{Fault, Failed, 
 use Rattle.tangle_core.specs.Tangled.{Tangled, tangled}
 use Rattle.tangle_core.specs.Outcome.{Output, Outcome, refused, broken, done, lines_with_changes, outcome, outcome_of}
 use Rattle.tangle_core.specs.Outcome.{written}
-use Rattle.tangle_core.specs.Work.{Work, World, does, leaves, prints, by_memory, by_shelf, Stops}
-use Rattle.tangle_core.specs.Job.{Going_on, reporting, leaves_outcome, leaves_pool, pascal_name, pool_name, tangling}
+use Rattle.tangle_core.specs.Work.{Work, World, does, leaves, by_memory, by_shelf, Stops}
+use Rattle.tangle_core.specs.Job.{Going_on, leaves_outcome, leaves_pool, pascal_name, pool_name, tangling}
 use Rattle.tangle_core.specs.Job.{Reaches, Tangles, world_of}
 use Rattle.tangle_core.specs.inner.Going.{Goes}
 use Rattle.tangle_core.specs.inner.Refusing.{by_work, IfJobFault}
 use Rattle.tangle_core.specs.inner.Writing.{LeavesFile, WritesUnfinished}
 use Rattle.tangle_core.proofs.WorkLemmas.{now_same}
-use Rattle.tangle_core.proofs.ReachingLemmas.{act_stopped, rest_is, reaches_then, load_stopped, files_now}
+use Rattle.tangle_core.proofs.ReachingLemmas.{rest_is, reaches_then, load_stopped, files_now}
 use Rattle.tangle_core.proofs.GoingLemmas.{left_done, left_failed, left_wanting, reaches_now, goes_on}
 use Rattle.tangle_core.proofs.WritingLemmas.{loads_same}
 
@@ -43,26 +44,15 @@ handed T work on rest (Ok value) err last u v is goes = absurd is
 handed T work on rest (Err other) err last u v is goes =
     subst (λ (e : TangleErr). Goes {T = T} work on rest (Err e) last u v) (sym is) goes
 
--- memory that was not found before it is known what the web comes to
-pub wants_memory : (base : List ℕ) (on : Going_on) (outcome : Outcome) (w : World)
-    → Stops (leaves_outcome base on outcome) by_memory w w
-wants_memory base on (refused fault) w = act_stopped (prints (on.report fault)) (on.at_fault fault) by_memory w w (now_same w)
-wants_memory base on (broken lines fault) w =
-    act_stopped (leaves (pascal_name base) (text_of_lines lines)) (reporting on fault) by_memory w w (now_same w)
-wants_memory base on (done output) w =
-    act_stopped (leaves (pascal_name base) (text_of_lines output.lines))
-    (leaves_pool (pool_name base) output.pool (on.at_end output)) by_memory w w (now_same w)
-
 -- the web is refused: for a fault, or for want of memory
 pub input_refused : (T : Type 0) (work : Work) (on : Going_on) (rest : T → Work) (base : List ℕ)
     (r : Result Scanned Flaw) (err : WorkErr) (last : Option FailedCall) (u v : World)
-    → IfFault {T = T} (Err err) (λ fault. r ≡ Err fault)
+    → IfFault {T = T} (Err err) (λ fault. r ≡ Err fault) → Stops work by_memory u v
     → Reaches work (leaves_outcome base on (outcome r)) u v
     → Goes {T = T} work on rest (Err (by_work err)) last u v
-input_refused T work on rest base r (input.Fault fault) last u v is reaches =
+input_refused T work on rest base r (input.Fault fault) last u v is wanting reaches =
     rest_is _ _ _ _ _ (ap (λ (s : Result Scanned Flaw). leaves_outcome base on (outcome s)) is) reaches
-input_refused T work on rest base r input.OutOfMemory last u v is reaches =
-    reaches.stops by_memory v (wants_memory base on (outcome r) v)
+input_refused T work on rest base r input.OutOfMemory last u v is wanting reaches = wanting
 
 outcome_of-lines : (web change : List ℕ) (options : Options)
     → outcome_of web change options ≡ outcome (lines_with_changes web change >>= scan_of options)
@@ -83,12 +73,12 @@ lines_known work on base web change options lines u v is reaches =
 -- or they are refused
 pub lines_refused : (T : Type 0) (work : Work) (on : Going_on) (rest : T → Work) (base web change : List ℕ)
     (options : Options) (err : WorkErr) (last : Option FailedCall) (u v : World)
-    → IfFault {T = T} (Err err) (λ fault. lines_with_changes web change ≡ Err fault)
+    → IfFault {T = T} (Err err) (λ fault. lines_with_changes web change ≡ Err fault) → Stops work by_memory u v
     → Reaches work (leaves_outcome base on (outcome_of web change options)) u v
     → Goes {T = T} work on rest (Err (by_work err)) last u v
-lines_refused T work on rest base web change options err last u v is reaches =
+lines_refused T work on rest base web change options err last u v is wanting reaches =
     input_refused T work on rest base (lines_with_changes web change >>= scan_of options) err last u v (faults err is)
-    (rest_is _ _ _ _ _ (ap (leaves_outcome base on) (outcome_of-lines web change options)) reaches)
+    wanting (rest_is _ _ _ _ _ (ap (leaves_outcome base on) (outcome_of-lines web change options)) reaches)
   where
     faults : (e : WorkErr) → IfFault {T = T} (Err e) (λ fault. lines_with_changes web change ≡ Err fault)
         → IfFault {T = T} (Err e) (λ fault. (lines_with_changes web change >>= scan_of options) ≡ Err fault)
@@ -136,7 +126,7 @@ pascal_first web base on lines None = (
   })),
   refl,
 )
-pascal_first web base on lines (Some fault) = (reporting on fault, refl)
+pascal_first web base on lines (Some fault) = (on.at_fault fault, refl)
 
 -- the Pascal file was left, up to a fault
 pub pascal_broken : (job : Job) (on : Going_on) (web : Scanned) (name : List ℕ) (fault : Flaw)
@@ -145,15 +135,15 @@ pub pascal_broken : (job : Job) (on : Going_on) (web : Scanned) (name : List ℕ
     → name ≡ pascal_name job.base → (tangled (expansion_of web)).fault ≡ Some fault
     → WhereTold (LeavesFile name (text_of_lines (tangled (expansion_of web)).lines)) a b
     → Reaches (tangling job on) (leaves_outcome job.base on (outcome (Ok web))) u (world_of a console ports)
-    → Reaches (tangling job on) (reporting on fault) u (world_of b console ports)
+    → Reaches (tangling job on) (on.at_fault fault) u (world_of b console ports)
 pascal_broken job on web name fault last u a b console ports named is left reaches =
     let text : List ℕ = text_of_lines (tangled (expansion_of web)).lines in
     let there : leaves_outcome job.base on (outcome (Ok web))
-    ≡ does (leaves name text) (reporting on fault) =
+    ≡ does (leaves name text) (on.at_fault fault) =
     ap (λ (f : Option Flaw). leaves_outcome job.base on (written web (tangled (expansion_of web)).lines f)) is
-    ∙ ap (λ (n : List ℕ). does (leaves n text) (reporting on fault)) (sym named) in
+    ∙ ap (λ (n : List ℕ). does (leaves n text) (on.at_fault fault)) (sym named) in
     reaches_then _ _ _ _ _ _ (rest_is _ _ _ _ _ there reaches)
-    (left_done name text (reporting on fault) a b console ports left)
+    (left_done name text (on.at_fault fault) a b console ports left)
 
 -- all that a web gives
 abbrev pub output_of : Scanned → List (List ℕ) → Output
@@ -198,7 +188,8 @@ pub pascal_stopped : (job : Job) (on : Going_on) (web : Scanned) (name : List �
     × (result ≡ Err OutOfMemory → WhereTold SameFiles a b)))
     → Reaches (tangling job on) (leaves_outcome job.base on (outcome (Ok web))) u (world_of a console ports)
     → Tangles job on (Err err) last u (world_of b console ports)
-pascal_stopped job on web name (Fault fault) last u a b console ports named is (written_is, (failed_is, same_is)) reaches =
+pascal_stopped job on web name (Fault fault) last u a b console ports named is (written_is, (failed_is, same_is))
+    reaches =
     pascal_broken job on web name fault last u a b console ports named is
     (written_is (λ e. absurd (cc)) (λ e. absurd (cc))) reaches
 pascal_stopped job on web name Failed last u a b console ports named is (written_is, (failed_is, same_is)) reaches =
@@ -210,7 +201,8 @@ pascal_stopped job on web name Failed last u a b console ports named is (written
     rest_is _ _ _ _ _ there reaches in
     next.stops (by_shelf last) (world_of b console ports)
     (left_failed name text first.0 last a b console ports (failed_is refl))
-pascal_stopped job on web name OutOfMemory last u a b console ports named is (written_is, (failed_is, same_is)) reaches =
+pascal_stopped job on web name OutOfMemory last u a b console ports named is (written_is, (failed_is, same_is))
+    reaches =
     let first = pascal_first web job.base on (tangled (expansion_of web)).lines (tangled (expansion_of web)).fault in
     let text : List ℕ = text_of_lines (tangled (expansion_of web)).lines in
     let there : leaves_outcome job.base on (outcome (Ok web)) ≡ does (leaves name text) first.0 =

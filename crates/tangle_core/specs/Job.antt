@@ -11,7 +11,7 @@ use Rattle.tangle_core.specs.declared.job.Done.{Done}
 use Rattle.tangle_core.specs.declared.job.TangleErr.{TangleErr}
 use Rattle.tangle_core.specs.declared.job.TangleErr.TheVariants.{Fault, Failed, OutOfMemory}
 use Rattle.tangle_core.specs.Outcome.{Output, Outcome, refused, broken, done, outcome_of}
-use Rattle.tangle_core.specs.Work.{Work, loads, does, leaves, prints, World, by_shelf, by_memory, Ends, Stops, Cause}
+use Rattle.tangle_core.specs.Work.{Work, loads, does, leaves, World, by_shelf, by_memory, Ends, Stops, Cause}
 
 -- the names of the Pascal file and of the pool
 abbrev pub pascal_name : List ℕ → List ℕ
@@ -20,15 +20,10 @@ pascal_name base = base ++ codes ".p"
 abbrev pub pool_name : List ℕ → List ℕ
 pool_name base = base ++ codes ".pool"
 
--- how the work goes on: at a fault its text is printed, and then comes this; where the job is done, this comes
+-- how the work goes on at a fault, and where the job is done
 pub record Going_on : Type 0 where
-  pub report : Flaw → List ℕ
   pub at_fault : Flaw → Work
   pub at_end : Output → Work
-
--- a fault is printed
-abbrev pub reporting : Going_on → Flaw → Work
-reporting on fault = does (prints (on.report fault)) (on.at_fault fault)
 
 -- a change file is loaded, if there is one; else it is empty
 abbrev pub loads_change : Option (List ℕ) → (List ℕ → Work) → Work
@@ -42,9 +37,9 @@ leaves_pool name (byte ∷ bytes) rest = does (leaves name (byte ∷ bytes)) res
 
 -- what tangling comes to is left: the Pascal file, whole or with the lines finished before the fault, and then the pool
 abbrev pub leaves_outcome : List ℕ → Going_on → Outcome → Work
-leaves_outcome base on (refused fault) = reporting on fault
+leaves_outcome base on (refused fault) = on.at_fault fault
 leaves_outcome base on (broken lines fault) =
-    does (leaves (pascal_name base) (text_of_lines lines)) (reporting on fault)
+    does (leaves (pascal_name base) (text_of_lines lines)) (on.at_fault fault)
 leaves_outcome base on (done output) =
     does (leaves (pascal_name base) (text_of_lines output.lines))
     (leaves_pool (pool_name base) output.pool (on.at_end output))
@@ -66,12 +61,13 @@ pub record Tells (made : Done) (output : Output) : Type 0 where
   pub strings : made.strings ≡ output.strings
   pub no_output : made.no_output ≡ output.no_output
 
--- the job was done, and the rest is left to do; or its fault is to be reported; or a call of the shelf that failed, or
--- want of memory, stopped it
+-- the job was done, and the rest is left to do; or what comes at its fault; or a call of the shelf that failed, or want
+-- of memory, stopped it. Memory is wanted before an act only: it cannot stop the job behind a file that was left up to
+-- a fault, whatever comes at the fault.
 abbrev pub Tangles : Job → Going_on → Result Done TangleErr → Option FailedCall → World → World → Type 0
 Tangles job on (Ok made) last before now =
     (output : Output) × (Tells made output × Reaches (tangling job on) (on.at_end output) before now)
-Tangles job on (Err (Fault fault)) last before now = Reaches (tangling job on) (reporting on fault) before now
+Tangles job on (Err (Fault fault)) last before now = Reaches (tangling job on) (on.at_fault fault) before now
 Tangles job on (Err Failed) last before now = Stops (tangling job on) (by_shelf last) before now
 Tangles job on (Err OutOfMemory) last before now = Stops (tangling job on) by_memory before now
 

@@ -1,6 +1,7 @@
 pub mod Emission
 pub mod Job
 pub mod Outcome
+pub mod OutcomeRows
 pub mod Tangled
 pub mod TangledRows
 pub mod Work

@@ -27,8 +27,8 @@ pub data Outcome : Type 0 where
   broken : List (List ℕ) → Fault → Outcome
   done : Output → Outcome
 
--- the lines of a web with a change file, or the first fault: one of the change file comes before one of the web's lines,
--- and then one of the merge
+-- the lines of a web with a change file, or the first fault: one of the change file comes before one of the web's
+-- lines, and then one of the merge
 abbrev pub lines_with_changes : List ℕ → List ℕ → Result (List Line) Fault
 lines_with_changes web change = do
   changes ← changes_of change

@@ -78,7 +78,8 @@ unfolding tangled
 open_at_the_end = refl
 
 -- the end gives the number that waits, and the last line
-pub joined_number_at_the_end : whole (line_of_a ++ (digit 49 ∷ (join ∷ (digit 50 ∷ [])))) ≡ done (codes "a" ∷ (codes "12" ∷ []))
+pub joined_number_at_the_end : whole (line_of_a ++ (digit 49 ∷ (join ∷ (digit 50 ∷ []))))
+    ≡ done (codes "a" ∷ (codes "12" ∷ []))
 unfolding tangled digits
 joined_number_at_the_end = refl
 

@@ -1,10 +1,10 @@
 //! The tangle job.
-ghost use Rattle.std.specs.Prelude.{◌≡◌, ◌⊎◌, ◌↔◌, ℕ, [], ◌++◌, List, length, Option, Some, None, true, false, IfOk, IfSome};
-ghost use Rattle.std.specs.Prelude.{Ok, Err};
-ghost use Rattle.std.specs.Prelude.{OnOk, IsErrOf, codes};
+ghost use Rattle.std.specs.Prelude.{◌≡◌, ◌⊎◌, ◌↔◌, ℕ, [], ◌++◌, List, length, Option, Some, None, true, false};
+ghost use Rattle.std.specs.Prelude.{Ok, Err, IfOk, IfSome, OnOk, IsErrOf, codes};
 ghost use Rattle.wb_base.specs.WorkResult.{IfFault};
 ghost use Rattle.wb_ports.specs.Counts.{CountsFailure};
-ghost use Rattle.wb_ports.specs.Files.{Loads};
+ghost use Rattle.wb_ports.specs.Held.{WhereTold};
+ghost use Rattle.wb_ports.specs.Files.{Loads, SameFiles};
 ghost use Rattle.web_scan.specs.Scan.{scan_of};
 ghost use Rattle.tangle_core.specs.Outcome.{outcome, lines_with_changes};
 ghost use Rattle.tangle_core.specs.Job.{Going_on, Tangles, tangling, pascal_name, pool_name, is_failed_job, Reaches};
@@ -43,7 +43,7 @@ pub fn tangle<S: Shelf>(
 ) -> Result<Done, TangleErr>
     requires { S.is_open shelf.old ≡ false }
 
-    // The job's work is done, and what comes next is left to do; or it was stopped on the way.
+    // For every way to go on: the job's work is done, and what comes next is left to do; or it was stopped on the way.
     ensures work { (on : Going_on) (console : Option (List ℕ)) (ports : Option (List (List ℕ))) →
         Tangles job.now on result (S.last_failure shelf.new)
         (world_of (S.files shelf.old) console ports) (world_of (S.files shelf.new) console ports) }
@@ -128,6 +128,7 @@ fn merged<S: Shelf>(alloc: Global, job: &Job, shelf: &mut S) -> Result<Lines, Ta
         (λ lines. leaves_outcome job.now.base on (outcome (scan_of job.now.options lines))) result
         (S.last_failure shelf.new)
         (world_of (S.files shelf.old) console ports) (world_of (S.files shelf.new) console ports) }
+    ensures same { WhereTold SameFiles (S.files shelf.old) (S.files shelf.new) }
     ensures is_open { S.is_open shelf.new ≡ S.is_open shelf.old }
     ensures cause { CountsFailure (is_failed_job result) (S.faults shelf.old) (S.faults shelf.new) }
 {
@@ -139,6 +140,7 @@ fn merged<S: Shelf>(alloc: Global, job: &Job, shelf: &mut S) -> Result<Lines, Ta
 // The bytes of a file.
 fn load<S: Shelf>(alloc: Global, name: &[u8], shelf: &mut S) -> Result<Text, TangleErr>
     ensures work { Loading name.now result (S.last_failure shelf.new) (S.files shelf.old) (S.files shelf.new) }
+    ensures same { WhereTold SameFiles (S.files shelf.old) (S.files shelf.new) }
     ensures is_open { S.is_open shelf.new ≡ S.is_open shelf.old }
     ensures cause { CountsFailure (is_failed_job result) (S.faults shelf.old) (S.faults shelf.new) }
 {
@@ -153,6 +155,7 @@ fn load_change<S: Shelf>(
 ) -> Result<Text, TangleErr>
     ensures work { LoadingChange change.now result (S.last_failure shelf.new)
         (S.files shelf.old) (S.files shelf.new) }
+    ensures same { WhereTold SameFiles (S.files shelf.old) (S.files shelf.new) }
     ensures is_open { S.is_open shelf.new ≡ S.is_open shelf.old }
     ensures cause { CountsFailure (is_failed_job result) (S.faults shelf.old) (S.faults shelf.new) }
 {

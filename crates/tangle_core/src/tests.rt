@@ -52,12 +52,24 @@ fn scan_text(alloc: Global, text: &[u8]) -> Result<Web, WorkErr> {
     scan(alloc, &list, BY_DEFAULT)
 }
 
+// Macros whose arguments stand behind them one after another.
+const HELPERS: &[u8] =
+    b"@ @d hlp1(#)==p(#);end\n@d hlp2(#)==p(#);hlp1\n@d help2==begin hlp2\n@p help2(a)(b)";
+// A string that fills a line of its own.
+const LONG_STRING: &[u8] =
+    b"{1:}\n'bbbbbbbbbbbbbbbbbbbbbbbbbbbbbbbbbbbbbbbbbbbbbbbbbbbbbbbbbbbbbbbbbbbbbb'\n{:1}\n";
+
 // A web, the lines that a sink gets of it, and what is answered. `%` stands for ten letters.
 #[derive(Clone, Copy)]
 struct Row {
     web: &'static [u8],
     lines: &'static [u8],
     answer: Result<u32, EmitErr>,
+}
+
+// What is answered where the Pascal text has a fault.
+fn refused(code: u16, line: u32) -> Result<u32, EmitErr> {
+    Err(EmitErr::Fault(fault(code, line)))
 }
 
 #[test]
@@ -67,26 +79,29 @@ fn webs_give_their_lines(rt: HostRuntime) -> Result<(), Fail> {
         Row { web: b"@ @p x:=a+3-5; y:=2+3*4; z:=1 2", lines: b"{1:}x:=a-2;y:=2+3*4;z:=12{:1}\n", answer: Ok(1) },
         Row { web: b"@ @p x:=3@&4", lines: b"{1:}x:=34{:1}\n", answer: Ok(1) },
         Row { web: b"@ @p aa@\\bb", lines: b"{1:}aa\nbb{:1}\n", answer: Ok(2) },
-        Row { web: b"@ @d hlp1(#)==p(#);end\n@d hlp2(#)==p(#);hlp1\n@d help2==begin hlp2\n@p help2(a)(b)", lines: b"{1:}begin p(a);p(b);end{:1}\n", answer: Ok(1) },
+        Row { web: HELPERS, lines: b"{1:}begin p(a);p(b);end{:1}\n", answer: Ok(1) },
         Row { web: b"@ @d ff(#)==gg(#+#)\n@d gg(#)==#*#\n@p ff(k)", lines: b"{1:}k+k*k+k{:1}\n", answer: Ok(1) },
-        Row { web: b"@ @d ff(#)==gg(#+#)\n@d gg(#)==#*#\n@p ff;k", lines: b"", answer: Err(EmitErr::Fault(fault(NO_PARAMETER_GIVEN, 1))) },
+        Row { web: b"@ @d ff(#)==gg(#+#)\n@d gg(#)==#*#\n@p ff;k", lines: b"", answer: refused(NO_PARAMETER_GIVEN, 1) },
         Row { web: b"@ @d ff(#)==#\n@p ff(ff(ff(k)))", lines: b"{1:}k{:1}\n", answer: Ok(1) },
-        Row { web: b"@ @d aa==aa\n@p aa", lines: b"", answer: Err(EmitErr::Fault(fault(TOO_MANY_LEVELS, 1))) },
-        Row { web: b"@ @p @<Initialize@>@<Ini...@>\n@ @<Initialize@>=x;", lines: b"{1:}{2:}x;{:2}{2:}x;{:2}{:1}\n", answer: Ok(1) },
-        Row { web: b"@ @p @<Initialize@>@<Ini...@>", lines: b"", answer: Err(EmitErr::Fault(fault(SECTION_NOT_PRESENT, 1))) },
+        Row { web: b"@ @d aa==aa\n@p aa", lines: b"", answer: refused(TOO_MANY_LEVELS, 1) },
+        Row { web: b"@ @p @<Initialize@>@<Ini...@>\n@ @<Initialize@>=x;",
+            lines: b"{1:}{2:}x;{:2}{2:}x;{:2}{:1}\n", answer: Ok(1) },
+        Row { web: b"@ @p @<Initialize@>@<Ini...@>", lines: b"", answer: refused(SECTION_NOT_PRESENT, 1) },
         Row { web: b"@ @d ab==cd\n@p ab(ab)", lines: b"{1:}cd(cd){:1}\n", answer: Ok(1) },
-        Row { web: b"@ @p '%%%%%%%'", lines: b"{1:}\n'bbbbbbbbbbbbbbbbbbbbbbbbbbbbbbbbbbbbbbbbbbbbbbbbbbbbbbbbbbbbbbbbbbbbbb'\n{:1}\n", answer: Ok(3) },
-        Row { web: b"@ @p '%%%%%%%b'", lines: b"", answer: Err(EmitErr::Fault(fault(STRING_TOO_LONG, 1))) },
-        Row { web: b"@ @p %%%%%@&%%bbb", lines: b"", answer: Err(EmitErr::Fault(fault(LINE_NOT_CUT, 1))) },
-        Row { web: b"@ @d mm=-3\n@d nn=mm+@'17+@\"F+\"a\"\n@p x*mm;x-mm;x:=nn", lines: b"{1:}x*(-3);x+3;x:=124{:1}\n", answer: Ok(1) },
+        Row { web: b"@ @p '%%%%%%%'", lines: LONG_STRING, answer: Ok(3) },
+        Row { web: b"@ @p '%%%%%%%b'", lines: b"", answer: refused(STRING_TOO_LONG, 1) },
+        Row { web: b"@ @p %%%%%@&%%bbb", lines: b"", answer: refused(LINE_NOT_CUT, 1) },
+        Row { web: b"@ @d mm=-3\n@d nn=mm+@'17+@\"F+\"a\"\n@p x*mm;x-mm;x:=nn",
+            lines: b"{1:}x*(-3);x+3;x:=124{:1}\n", answer: Ok(1) },
         Row { web: b"@ @p @{@<X y@>@}\n@ @<X y@>=b;", lines: b"{1:}{[2:]b;[:2]}{:1}\n", answer: Ok(1) },
         Row { web: b"@ @p 1 mm\n@ @d mm==2", lines: b"{1:}12{:1}\n", answer: Ok(1) },
-        Row { web: b"@ @d mm=2\n@p 1 mm", lines: b"", answer: Err(EmitErr::Fault(fault(NUMBERS_WITHOUT_SIGN, 1))) },
+        Row { web: b"@ @d mm=2\n@p 1 mm", lines: b"", answer: refused(NUMBERS_WITHOUT_SIGN, 1) },
         Row { web: b"@ @p x:=007", lines: b"{1:}x:=7{:1}\n", answer: Ok(1) },
-        Row { web: b"@ @d big==2147483647\n@p aa@\\x:=big+1;", lines: b"{1:}aa\n", answer: Err(EmitErr::Fault(fault(CONSTANT_TOO_BIG, 2))) },
-        Row { web: b"@ @d five==5\n@p aa@\\a.five", lines: b"{1:}aa\n", answer: Err(EmitErr::Fault(fault(REAL_CONSTANT, 2))) },
-        Row { web: b"@ @p aa@\\@}", lines: b"{1:}aa\n", answer: Err(EmitErr::Fault(fault(STRAY_END_OF_METACOMMENT, 2))) },
-        Row { web: b"@ @p aa@\\@{bb", lines: b"{1:}aa\n", answer: Err(EmitErr::Fault(fault(METACOMMENT_NOT_ENDED, 2))) },
+        Row { web: b"@ @d big==2147483647\n@p aa@\\x:=big+1;",
+            lines: b"{1:}aa\n", answer: refused(CONSTANT_TOO_BIG, 2) },
+        Row { web: b"@ @d five==5\n@p aa@\\a.five", lines: b"{1:}aa\n", answer: refused(REAL_CONSTANT, 2) },
+        Row { web: b"@ @p aa@\\@}", lines: b"{1:}aa\n", answer: refused(STRAY_END_OF_METACOMMENT, 2) },
+        Row { web: b"@ @p aa@\\@{bb", lines: b"{1:}aa\n", answer: refused(METACOMMENT_NOT_ENDED, 2) },
         Row { web: b"", lines: b"", answer: Ok(0) },
     ];
     for (index, row) in rows.iter().enumerate() {
@@ -145,11 +160,15 @@ fn job_of(alloc: Global, has_change: bool) -> Result<Job, OutOfMemory> {
 fn jobs_leave_their_files(rt: HostRuntime) -> Result<(), Fail> {
     #[rattlefmt::skip]
     let rows = [
-        JobRow { web: b"@ @p x:=a+3-5; y:=2+3*4; z:=1 2", change: None, pascal: Some(b"{1:}x:=a-2;y:=2+3*4;z:=12{:1}\n"), pool: None, answer: done(1, 0, false) },
-        JobRow { web: b"@ @p x:=\"ab\"; y:=\"A\"", change: None, pascal: Some(b"{1:}x:=256;y:=65{:1}\n"), pool: Some(b"02ab\n*000000000\n"), answer: done(1, 1, false) },
+        JobRow { web: b"@ @p x:=a+3-5; y:=2+3*4; z:=1 2", change: None,
+            pascal: Some(b"{1:}x:=a-2;y:=2+3*4;z:=12{:1}\n"), pool: None, answer: done(1, 0, false) },
+        JobRow { web: b"@ @p x:=\"ab\"; y:=\"A\"", change: None,
+            pascal: Some(b"{1:}x:=256;y:=65{:1}\n"), pool: Some(b"02ab\n*000000000\n"), answer: done(1, 1, false) },
         JobRow { web: b"", change: None, pascal: Some(b""), pool: None, answer: done(0, 0, true) },
-        JobRow { web: b"@ @p aa", change: Some(b"@x\n@ @p aa\n@y\n@ @p\na+b\n@z\n"), pascal: Some(b"{1:}a+b{:1}\n"), pool: None, answer: done(1, 0, false) },
-        JobRow { web: b"@ @p \"ab\"@\\@}", change: None, pascal: Some(b"{1:}256\n"), pool: None, answer: Err(TangleErr::Fault(fault(STRAY_END_OF_METACOMMENT, 2))) },
+        JobRow { web: b"@ @p aa", change: Some(b"@x\n@ @p aa\n@y\n@ @p\na+b\n@z\n"),
+            pascal: Some(b"{1:}a+b{:1}\n"), pool: None, answer: done(1, 0, false) },
+        JobRow { web: b"@ @p \"ab\"@\\@}", change: None,
+            pascal: Some(b"{1:}256\n"), pool: None, answer: Err(TangleErr::Fault(fault(STRAY_END_OF_METACOMMENT, 2))) },
     ];
     for (index, row) in rows.iter().enumerate() {
         let mut shelf = MemShelf::new(rt.alloc(), ROOM, &[])?;

@@ -139,7 +139,8 @@ fn tell_pascal<S: Shelf, B: Begun>(web: &Web, sink: &mut FileSink<'_, S, B>) -> 
         (S.faults sink.old.shelf.now) (S.last_failure sink.old.shelf.now))
         (shelf_now (S.files sink.new.shelf.now) (S.open_name sink.new.shelf.now)
         (S.faults sink.new.shelf.now) (S.last_failure sink.new.shelf.now)) }
-    ensures copies { Copies (is_failed result) sink.old.copy.now sink.new.copy.now (S.open_name sink.old.shelf.now) (S.files sink.new.shelf.now) }
+    ensures copies { Copies (is_failed result) sink.old.copy.now sink.new.copy.now
+        (S.open_name sink.old.shelf.now) (S.files sink.new.shelf.now) }
     ensures same_shelf { sink.new.shelf.ghost_name ≡ sink.old.shelf.ghost_name }
     ensures same_copy { sink.new.copy.ghost_name ≡ sink.old.copy.ghost_name }
 {

@@ -56,11 +56,10 @@ abbrev pub telling_no_output : Bool → Work → Work
 telling_no_output true rest = does (prints no_output_line) rest
 telling_no_output false rest = rest
 
--- how tangling goes on: a fault is reported; else the work goes on with what was tangled
+-- how tangling goes on: at a fault it is refused; else the work goes on with what was tangled
 abbrev pub going_on : Order → (Output → Work) → Going_on
 going_on order next = record {
-  report = fault_line order;
-  at_fault = λ fault. ends (number_of Refused);
+  at_fault = refused order;
   at_end = λ output. telling_no_output output.no_output (next output);
 }
 

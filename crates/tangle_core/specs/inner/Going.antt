@@ -6,14 +6,14 @@ use Rattle.web_scan.specs.Scanned.{Scanned}
 use Rattle.tangle_core.specs.declared.job.TangleErr.{TangleErr}
 use Rattle.tangle_core.specs.declared.job.TangleErr.TheVariants.{Fault, Failed, OutOfMemory}
 use Rattle.tangle_core.specs.Work.{Work, loads, does, leaves, World, by_shelf, by_memory, Stops}
-use Rattle.tangle_core.specs.Job.{Going_on, Reaches, reporting, loads_change, world_of}
+use Rattle.tangle_core.specs.Job.{Going_on, Reaches, loads_change, world_of}
 
--- a part of the job did the first part of the work; or its fault is to be reported; or a call of the shelf that failed,
--- or want of memory, stopped it
+-- a part of the job did the first part of the work; or there is a fault, and what comes at it is left; or a call of the
+-- shelf that failed, or want of memory, stopped it
 abbrev pub Goes : {T : Type 0} → Work → Going_on → (T → Work) → Result T TangleErr → Option FailedCall → World → World
     → Type 0
 Goes work on rest (Ok value) last before now = Reaches work (rest value) before now
-Goes work on rest (Err (Fault fault)) last before now = Reaches work (reporting on fault) before now
+Goes work on rest (Err (Fault fault)) last before now = Reaches work (on.at_fault fault) before now
 Goes work on rest (Err Failed) last before now = Stops work (by_shelf last) before now
 Goes work on rest (Err OutOfMemory) last before now = Stops work by_memory before now
 

@@ -28,8 +28,9 @@ loop-item-init g c =
     )
 
 -- at the end no item is left
-none_left : (T : Type 0) (given : Option T) (left : Expansion) → IfNone given (left ≡ record { items = []; fault = None })
-    → given ≡ None → left ≡ record { items = []; fault = None }
+none_left : (T : Type 0) (given : Option T) (left : Expansion)
+    → IfNone given (left ≡ record { items = []; fault = None }) → given ≡ None
+    → left ≡ record { items = []; fault = None }
 none_left T given left none is =
     subst (λ (o : Option T). IfNone o (left ≡ record { items = []; fault = None })) is none
 
