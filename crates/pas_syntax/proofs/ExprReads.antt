@@ -18,7 +18,7 @@ use Rattle.pas_syntax.specs.declared.operators.Adding.TheVariants as adding
 use Rattle.pas_syntax.specs.declared.operators.Relation.{Relation}
 use Rattle.pas_syntax.specs.declared.operators.Relation.TheVariants as relates
 use Rattle.pas_syntax.specs.Tree as tree
-use Rattle.pas_syntax.specs.Tree.{Ident, Lined, Expr, Sum, Term, Factor, Variable, Exprs}
+use Rattle.pas_syntax.specs.Tree.{Ident, Numeral, Quoted, Lined, Expr, Sum, Term, Factor, Variable, Exprs}
 use Rattle.pas_syntax.specs.Words.{Word, says, at, operator, shows, name_at, number_at, text_at, multiplying_kind, adding_kind}
 use Rattle.pas_syntax.specs.Words.{relation_kind, sign_kind, depth_of, sum_depth, term_depth, expr_words, sum_words, term_words}
 use Rattle.pas_syntax.specs.Words.{factor_words, variable_words, exprs_words}
@@ -26,7 +26,7 @@ use Rattle.pas_syntax.specs.Parse.{fault_of, left_out, IsSound}
 use Rattle.pas_syntax.specs.inner.Prog.{Prog, done, fail, look, skip, bind, head, misplaced, shown, spent, Next, more, ends, no, turns}
 use Rattle.pas_syntax.specs.inner.Readers.{ident_at, ident, right_parenthesis_at, right_bracket_at, factor_behind}
 use Rattle.pas_syntax.specs.inner.Readers.{behind_factor, term_by, term_behind, behind_term, signed_by, first_term_at, sum_by}
-use Rattle.pas_syntax.specs.inner.Readers.{not_in, related_by, behind_sum, expr_by, behind_expr, exprs_by, indexes_by}
+use Rattle.pas_syntax.specs.inner.Readers.{related_by, behind_sum, expr_by, behind_expr, exprs_by, indexes_by}
 use Rattle.pas_syntax.specs.inner.Readers.{behind_variable, variable_by, call_by, behind_name, parenthesized_by, negated_by}
 use Rattle.pas_syntax.specs.inner.Readers.{factor_at, factor, expr, exprs, variable}
 use Rattle.pas_syntax.proofs.Good.{a_token, ReadsAt, Reads, reads_look, reads_done, reads_wrong, reads_shown, reads_skip, reads_bind}
@@ -96,11 +96,6 @@ relation_goes_on relates.GreaterOrEqual e = cc
 sign_goes_on : (lead : Sign) → k.EndOfText ≡ sign_kind lead → ⊥
 sign_goes_on sign.Plus e = cc
 sign_goes_on sign.Minus e = cc
-
--- what stands behind two pieces, as one that stands behind the first
-assoc_family : {A : Type 0} (R : A → List Word → Type 0) (us vs : List Word)
-    → ◌≡◌ {A = A → List Word → Type 0} (λ x ws. R x ((us ++ vs) ++ ws)) (λ x ws. R x (us ++ (vs ++ ws)))
-assoc_family R us vs = λ i x ws. R x (append_assoc us vs ws i)
 
 -- names and brackets
 module _ (n : ℕ) (fits : n ≤ NESTING_LIMIT) where
@@ -248,11 +243,17 @@ module _ (factor : ℕ → ℕ → Prog Factor) (most : ℕ)
             (tree.more_terms left (lined op line) zero_term, zero_word n ∷ [],
                 one_term_more left us op line zero_term (zero_word n ∷ []) is refl)))
 
+    in_turn : (left : Sum) (us : List Word) (line : ℕ) → IsSum n a left us
+        → Begins (IsSum n a) us (a_token k.In nothing line) (no (shown SETS))
+    in_turn left us line is =
+        (tree.membership left line, shows n k.In line SETS, [], ap (λ ws. ws ++ shows n k.In line SETS ∷ []) is, refl, refl)
+
     begins_sum : (left : Sum) (us : List Word) → IsSum n a left us → (kind : Kind) (payload : Payload) (line : ℕ)
         → Begins (IsSum n a) us (a_token kind payload line) (behind_term factor most n a left kind payload line)
     begins_sum left us is k.Plus nothing line = term_turn left us adding.Plus line is
     begins_sum left us is k.Minus nothing line = term_turn left us adding.Minus line is
     begins_sum left us is k.Or nothing line = term_turn left us adding.Or line is
+    begins_sum left us is k.In nothing line = in_turn left us line is
     begins_sum left us is kind payload line = tt
 
     reads_signed : (lead : Sign) (line : ℕ)
@@ -298,21 +299,13 @@ module _ (factor : ℕ → ℕ → Prog Factor) (most : ℕ)
 
   -- an expression
   module _ (n a : ℕ) (fits : n ≤ NESTING_LIMIT) where
-    reads_not_in : (e : Expr) (us : List Word) → IsExpr n a e us → (kind : Kind) (payload : Payload) (line : ℕ)
-        → ReadsAt (a_token kind payload line) (λ x vs. IsExpr n a x (us ++ vs)) Any (not_in factor most e kind payload line)
-    reads_not_in e us is k.In nothing line =
-        reads_shown (λ x vs. IsExpr n a x (us ++ vs)) Any (a_token k.In nothing line) SETS (tree.membership e line)
-        (shows n k.In line SETS) [] (ap (λ ws. ws ++ shows n k.In line SETS ∷ []) is) refl refl
-    reads_not_in e us is kind payload line =
-        reads_done (λ x vs. IsExpr n a x (us ++ vs)) Any (a_token kind payload line) e (rw (append-nil us) is) tt
-
     reads_related : (left : Sum) (us : List Word) (op : Relation) (line : ℕ) → IsSum n a left us
         → ReadsAt (a_token (relation_kind op) nothing line) (λ x vs. IsExpr n a x (us ++ vs)) Any
           (related_by factor most n a left op line)
     reads_related left us op line is =
         let w = operator n (a + 1 + sum_depth left) (relation_kind op) line in
         let make = λ (right : Sum). tree.relation left (lined op line) right in
-        let further = λ (right : Sum). look (not_in factor most (make right)) in
+        let further = λ (right : Sum). done (make right) in
         reads_unless (λ x vs. IsExpr n a x (us ++ vs)) w.token (nat_lt NESTING_LIMIT (a + 1 + sum_depth left))
         (skip (bind (sum_by factor most n (a + 1)) further))
         (λ deep. record {
@@ -324,12 +317,8 @@ module _ (factor : ℕ → ℕ → Prog Factor) (most : ℕ)
             (relation_goes_on op) (sound_operator n (a + 1 + sum_depth left) (relation_kind op) line fits few)
             (reads_bind (IsSum n (a + 1)) Any (λ x vs. IsExpr n a x (us ++ w ∷ vs)) Any further
             (sum_by factor most n (a + 1)) (reads_sum n (a + 1) fits)
-            (λ right vs t also _ ts _. reads_look (λ x ws. IsExpr n a x (us ++ w ∷ (vs ++ ws))) Any
-                (not_in factor most (make right))
-                (λ kind payload line. subst
-                    (λ P. ReadsAt (a_token kind payload line) P Any (not_in factor most (make right) kind payload line))
-                    (assoc_family (IsExpr n a) us (w ∷ vs))
-                    (reads_not_in (make right) (us ++ w ∷ vs) (rw (is, also) refl) kind payload line)) ts)
+            (λ right vs t also _. reads_done (λ x ws. IsExpr n a x (us ++ w ∷ (vs ++ ws))) Any t (make right)
+                (rw (append-nil vs, is, also) refl) tt)
             (λ right vs also. (make right, [], rw (append-nil vs, is, also) refl))))
 
     reads_behind_sum : (left : Sum) (us : List Word) → IsSum n a left us → (kind : Kind) (payload : Payload) (line : ℕ)
@@ -341,7 +330,9 @@ module _ (factor : ℕ → ℕ → Prog Factor) (most : ℕ)
     reads_behind_sum left us is k.LessOrEqual nothing line = reads_related left us relates.LessOrEqual line is
     reads_behind_sum left us is k.Greater nothing line = reads_related left us relates.Greater line is
     reads_behind_sum left us is k.GreaterOrEqual nothing line = reads_related left us relates.GreaterOrEqual line is
-    reads_behind_sum left us is kind payload line = reads_not_in (tree.sum left) us is kind payload line
+    reads_behind_sum left us is kind payload line =
+        reads_done (λ x vs. IsExpr n a x (us ++ vs)) Any (a_token kind payload line) (tree.sum left)
+        (rw (append-nil us) is) tt
 
     pub reads_expr : Reads (IsExpr n a) Any (expr_by factor most n a)
     reads_expr =
@@ -521,13 +512,13 @@ module _ (factor : ℕ → ℕ → Prog Factor) (most : ℕ)
     pub reads_factor_at : (kind : Kind) (payload : Payload) (line : ℕ)
         → ReadsAt (a_token kind payload line) (IsFactor n a) Any (factor_at factor most n a kind payload line)
     reads_factor_at k.Number (value number) line =
-        let found = record { value = number; line = line } in
+        let found : Numeral = record { value = number; line = line } in
         reads_skip (IsFactor n a) Any (number_at n found) (done (tree.literal found)) (λ e. cc)
         (sound_says n k.Number (value number) line fits)
         (λ ts. reads_done (λ f ws. IsFactor n a f (number_at n found ∷ ws)) Any (head ts) (tree.literal found) refl tt
             ts refl)
     reads_factor_at k.Text (spelling text) line =
-        let found = record { text = text; line = line } in
+        let found : Quoted = record { text = text; line = line } in
         reads_skip (IsFactor n a) Any (text_at n found) (done (tree.literal_text found)) (λ e. cc)
         (sound_says n k.Text (spelling text) line fits)
         (λ ts. reads_done (λ f ws. IsFactor n a f (text_at n found ∷ ws)) Any (head ts) (tree.literal_text found) refl tt

@@ -22,24 +22,12 @@ pub(crate) fn expr(alloc: Global, reader: &mut Reader<'_>, depth: Depth) -> Resu
             let inner = depth.in_operand(left.depth)?;
             let relation = reader.lined(relation);
             let right = sum(alloc, reader, inner)?;
-            not_in(reader)?;
             related(alloc, left, relation, right)
         }
-        None => {
-            not_in(reader)?;
-            Ok(Deep {
-                tree: Expr::Sum(left.tree),
-                depth: left.depth,
-            })
-        }
-    }
-}
-
-// Refuses `in`, which would be left out.
-fn not_in(reader: &Reader<'_>) -> Result<(), Stop> {
-    match reader.kind() {
-        Kind::In => Err(Stop::LeftOut(SETS)),
-        _ => Ok(()),
+        None => Ok(Deep {
+            tree: Expr::Sum(left.tree),
+            depth: left.depth,
+        }),
     }
 }
 
@@ -72,8 +60,19 @@ fn sum(alloc: Global, reader: &mut Reader<'_>, depth: Depth) -> Result<Deep<Sum>
                 let right = term(alloc, reader, inner)?;
                 left = added(alloc, left, adding, right)?;
             }
-            None => return Ok(left),
+            None => {
+                not_in(reader)?;
+                return Ok(left);
+            }
         }
+    }
+}
+
+// Refuses `in`, which would be left out.
+fn not_in(reader: &Reader<'_>) -> Result<(), Stop> {
+    match reader.kind() {
+        Kind::In => Err(Stop::LeftOut(SETS)),
+        _ => Ok(()),
     }
 }
 

@@ -79,6 +79,7 @@ module _ (factor : ℕ → ℕ → Prog Factor) (most : ℕ) where
   behind_term n a left k.Plus nothing line = term_behind n a left adding.Plus line
   behind_term n a left k.Minus nothing line = term_behind n a left adding.Minus line
   behind_term n a left k.Or nothing line = term_behind n a left adding.Or line
+  behind_term n a left k.In nothing line = no (shown SETS)
   behind_term n a left kind payload line = ends
 
   abbrev pub signed_by : ℕ → ℕ → Sign → ℕ → Prog Sum
@@ -95,14 +96,10 @@ module _ (factor : ℕ → ℕ → Prog Factor) (most : ℕ) where
   sum_by n a = bind (look (first_term_at n a)) (λ first. turns (behind_term n a) most first)
 
   -- expr = sum [("="|"<>"|"<"|"<="|">"|">=") sum]
-  abbrev pub not_in : Expr → Kind → Payload → ℕ → Prog Expr
-  not_in e k.In nothing line = fail (shown SETS)
-  not_in e kind payload line = done e
-
   abbrev pub related_by : ℕ → ℕ → Sum → Relation → ℕ → Prog Expr
   related_by n a left op line =
       in_operand (a + 1 + sum_depth left) (skip (bind (sum_by n (a + 1))
-      (λ right. look (not_in (tree.relation left (record { item = op; line = line }) right)))))
+      (λ right. done (tree.relation left (record { item = op; line = line }) right))))
 
   abbrev pub behind_sum : ℕ → ℕ → Sum → Kind → Payload → ℕ → Prog Expr
   behind_sum n a left k.Equal nothing line = related_by n a left relates.Equal line
@@ -111,7 +108,7 @@ module _ (factor : ℕ → ℕ → Prog Factor) (most : ℕ) where
   behind_sum n a left k.LessOrEqual nothing line = related_by n a left relates.LessOrEqual line
   behind_sum n a left k.Greater nothing line = related_by n a left relates.Greater line
   behind_sum n a left k.GreaterOrEqual nothing line = related_by n a left relates.GreaterOrEqual line
-  behind_sum n a left kind payload line = not_in (tree.sum left) kind payload line
+  behind_sum n a left kind payload line = done (tree.sum left)
 
   abbrev pub expr_by : ℕ → ℕ → Prog Expr
   expr_by n a = bind (sum_by n a) (λ left. look (behind_sum n a left))
