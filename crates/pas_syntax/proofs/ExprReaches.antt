@@ -11,18 +11,26 @@ use Rattle.pas_tokens.specs.Tokens.{Token}
 use Rattle.pas_syntax.specs.declared.limits.TheConstants.{NESTING_LIMIT}
 use Rattle.pas_syntax.specs.declared.operators.Multiplying.{Multiplying}
 use Rattle.pas_syntax.specs.declared.operators.Multiplying.TheVariants as multiplying
+use Rattle.pas_syntax.specs.declared.operators.Sign.{Sign}
+use Rattle.pas_syntax.specs.declared.operators.Sign.TheVariants as sign
+use Rattle.pas_syntax.specs.declared.operators.Relation.{Relation}
+use Rattle.pas_syntax.specs.declared.operators.Relation.TheVariants as relates
 use Rattle.pas_syntax.specs.declared.operators.Adding.{Adding}
 use Rattle.pas_syntax.specs.declared.operators.Adding.TheVariants as adding
 use Rattle.pas_syntax.specs.Tree as tree
-use Rattle.pas_syntax.specs.Tree.{Term, Factor, Sum}
-use Rattle.pas_syntax.specs.Words.{Word, operator, shows, multiplying_kind, adding_kind, sum_depth, term_depth, sum_words}
-use Rattle.pas_syntax.specs.Words.{term_words, factor_words}
+use Rattle.pas_syntax.specs.Tree.{Ident, Lined, Expr, Sum, Term, Factor, Variable, Exprs}
+use Rattle.pas_syntax.specs.Words.{Word, at, operator, shows, name_at, number_at, text_at, multiplying_kind, adding_kind}
+use Rattle.pas_syntax.specs.Words.{relation_kind, sign_kind, sum_depth, term_depth, expr_words, sum_words, term_words}
+use Rattle.pas_syntax.specs.Words.{factor_words, variable_words, exprs_words}
 use Rattle.pas_syntax.specs.Parse.{tokens_in}
-use Rattle.pas_syntax.specs.inner.Prog.{Prog, done, bind, Out, head, Next, ends, turns}
-use Rattle.pas_syntax.specs.inner.Readers.{factor_behind, behind_factor, term_by, term_behind, behind_term}
-use Rattle.pas_syntax.proofs.Judged.{Reaches, reaches_bind, reaches_last}
-use Rattle.pas_syntax.proofs.ReachLemmas.{reaches_turn, reaches_no, reaches_end}
-use Rattle.pas_syntax.proofs.WordLemmas.{sound_operator, deep_operator}
+use Rattle.pas_syntax.specs.inner.Prog.{Prog, done, look, skip, bind, Out, run, head, Next, more, ends, turns}
+use Rattle.pas_syntax.specs.inner.Readers.{ident, right_parenthesis_at, right_bracket_at, factor_behind, behind_factor}
+use Rattle.pas_syntax.specs.inner.Readers.{term_by, term_behind, behind_term, signed_by, first_term_at, sum_by, related_by}
+use Rattle.pas_syntax.specs.inner.Readers.{behind_sum, expr_by, behind_expr, exprs_by, indexes_by, behind_variable}
+use Rattle.pas_syntax.specs.inner.Readers.{variable_by, behind_name, factor_at, factor, expr, exprs, variable}
+use Rattle.pas_syntax.proofs.Judged.{Reaches, reaches_bind, reaches_last, reaches_skip, reaches_shown}
+use Rattle.pas_syntax.proofs.ReachLemmas.{reaches_turn, reaches_more, reaches_no, reaches_end, reaches_unless, reaches_look}
+use Rattle.pas_syntax.proofs.WordLemmas.{sound_says, sound_operator, deep_form, deep_operator, fits_of}
 
 -- what may stand behind a factor, a term and a sum
 abbrev pub EndsFactor : Kind → Type 0
@@ -87,9 +95,138 @@ few_turns n a (tree.more_factors left op f) =
 few_turns n a (tree.quotient left line) =
     omega (arith, few_turns n a left, length-append (term_words n a left) (shows n k.Slash line REAL_NUMBERS ∷ []))
 
+-- what may stand behind an expression, and behind a list of them
+abbrev pub EndsExpr : Kind → Type 0
+EndsExpr k.Equal = ⊥
+EndsExpr k.NotEqual = ⊥
+EndsExpr k.Less = ⊥
+EndsExpr k.LessOrEqual = ⊥
+EndsExpr k.Greater = ⊥
+EndsExpr k.GreaterOrEqual = ⊥
+EndsExpr kind = EndsSum kind
+
+abbrev pub EndsExprs : Kind → Type 0
+EndsExprs k.Comma = ⊥
+EndsExprs kind = EndsExpr kind
+
+pub sum_ends : (kind : Kind) → EndsExpr kind → EndsSum kind
+sum_ends k.Equal e = absurd e
+sum_ends k.NotEqual e = absurd e
+sum_ends k.Less e = absurd e
+sum_ends k.LessOrEqual e = absurd e
+sum_ends k.Greater e = absurd e
+sum_ends k.GreaterOrEqual e = absurd e
+sum_ends kind e = e
+
+pub expr_ends : (kind : Kind) → EndsExprs kind → EndsExpr kind
+expr_ends k.Comma e = absurd e
+expr_ends kind e = e
+
+relation_ends : (op : Relation) → EndsSum (relation_kind op)
+relation_ends relates.Equal = tt
+relation_ends relates.NotEqual = tt
+relation_ends relates.Less = tt
+relation_ends relates.LessOrEqual = tt
+relation_ends relates.Greater = tt
+relation_ends relates.GreaterOrEqual = tt
+
+-- what a factor does not begin with: a sign
+abbrev IsNoSign : Kind → Type 0
+IsNoSign k.Plus = ⊥
+IsNoSign k.Minus = ⊥
+IsNoSign kind = Unit {0}
+
+record Starts (ws : List Word) : Type 0 where
+  pub word : Word
+  pub others : List Word
+  pub same : ws ≡ word ∷ others
+  pub no_sign : IsNoSign word.token.kind
+
+starts_append : (us vs : List Word) → Starts us → Starts (us ++ vs)
+starts_append us vs s =
+    record { word = s.word; others = s.others ++ vs; same = ap (λ ws. ws ++ vs) s.same; no_sign = s.no_sign }
+
+starts_head : (ws : List Word) (rest : List Token) → Starts ws → IsNoSign (head (tokens_in ws ++ rest)).kind
+starts_head ws rest s = subst (λ ws. IsNoSign (head (tokens_in ws ++ rest)).kind) (sym s.same) s.no_sign
+
+-- a variable is its name and what stands behind that
+abbrev pub name_of : Variable → Ident
+name_of (tree.whole ident) = ident
+name_of (tree.indexed v opened indexes closed) = name_of v
+name_of (tree.field_of v line ident) = name_of v
+name_of (tree.buffer_of v line) = name_of v
+
+abbrev pub selector_words : ℕ → ℕ → Variable → List Word
+selector_words n a (tree.whole ident) = []
+selector_words n a (tree.indexed v opened indexes closed) =
+    selector_words n a v ++ at (n + 1) k.LeftBracket opened ∷ (exprs_words (n + 1) a indexes
+    ++ at (n + 1) k.RightBracket closed ∷ [])
+selector_words n a (tree.field_of v line ident) = selector_words n a v ++ at n k.Dot line ∷ (name_at n ident ∷ [])
+selector_words n a (tree.buffer_of v line) = selector_words n a v ++ at n k.Caret line ∷ []
+
+pub split_variable : (n a : ℕ) (v : Variable) → variable_words n a v ≡ name_at n (name_of v) ∷ selector_words n a v
+split_variable n a (tree.whole ident) = refl
+split_variable n a (tree.indexed v opened indexes closed) =
+    ap (λ ws. ws ++ at (n + 1) k.LeftBracket opened ∷ (exprs_words (n + 1) a indexes
+    ++ at (n + 1) k.RightBracket closed ∷ [])) (split_variable n a v)
+split_variable n a (tree.field_of v line ident) =
+    ap (λ ws. ws ++ at n k.Dot line ∷ (name_at n ident ∷ [])) (split_variable n a v)
+split_variable n a (tree.buffer_of v line) = ap (λ ws. ws ++ at n k.Caret line ∷ []) (split_variable n a v)
+
+starts_factor : (n a : ℕ) (f : Factor) → Starts (factor_words n a f)
+starts_factor n a (tree.literal numeral) = record { word = number_at n numeral; others = []; same = refl; no_sign = tt }
+starts_factor n a (tree.literal_text quoted) = record { word = text_at n quoted; others = []; same = refl; no_sign = tt }
+starts_factor n a (tree.parenthesized opened e closed) =
+    record {
+      word = at (n + 1) k.LeftParenthesis opened;
+      others = expr_words (n + 1) a e
+          ++ at (n + 1) k.RightParenthesis closed ∷ [];
+      same = refl;
+      no_sign = tt;
+    }
+starts_factor n a (tree.negated line f) =
+    record { word = operator n (a + 1) k.Not line; others = factor_words n (a + 1) f; same = refl; no_sign = tt }
+starts_factor n a (tree.variable v) =
+    record { word = name_at n (name_of v); others = selector_words n a v; same = split_variable n a v; no_sign = tt }
+starts_factor n a (tree.function_call name opened arguments closed) =
+    record {
+      word = name_at n name;
+      others = at (n + 1) k.LeftParenthesis opened ∷ (exprs_words (n + 1) a arguments
+          ++ at (n + 1) k.RightParenthesis closed ∷ []);
+      same = refl;
+      no_sign = tt;
+    }
+starts_factor n a (tree.set_value line) =
+    record { word = shows n k.LeftBracket line SETS; others = []; same = refl; no_sign = tt }
+starts_factor n a (tree.nil line) = record { word = shows n k.Nil line POINTERS; others = []; same = refl; no_sign = tt }
+
+starts_term : (n a : ℕ) (t : Term) → Starts (term_words n a t)
+starts_term n a (tree.first_factor f) = starts_factor n a f
+starts_term n a (tree.more_factors left op f) =
+    starts_append (term_words n a left) (operator n (a + 1 + term_depth left) (multiplying_kind op.item) op.line
+    ∷ factor_words n (a + 1) f) (starts_term n a left)
+starts_term n a (tree.quotient left line) =
+    starts_append (term_words n a left) (shows n k.Slash line REAL_NUMBERS ∷ []) (starts_term n a left)
+
+-- how many turns a loop takes to a sum
+abbrev turns_of_sum : Sum → ℕ
+turns_of_sum (tree.first_term t) = 0
+turns_of_sum (tree.signed_term lead t) = 0
+turns_of_sum (tree.more_terms left op t) = turns_of_sum left + 1
+turns_of_sum (tree.membership left line) = turns_of_sum left + 1
+
+few_turns_of_sum : (n a : ℕ) (s : Sum) → turns_of_sum s ≤ length (sum_words n a s)
+few_turns_of_sum n a (tree.first_term t) = omega arith
+few_turns_of_sum n a (tree.signed_term lead t) = omega arith
+few_turns_of_sum n a (tree.more_terms left op t) =
+    let w = operator n (a + 1 + sum_depth left) (adding_kind op.item) op.line in
+    omega (arith, few_turns_of_sum n a left, length-append (sum_words n a left) (w ∷ term_words n (a + 1) t))
+few_turns_of_sum n a (tree.membership left line) =
+    omega (arith, few_turns_of_sum n a left, length-append (sum_words n a left) (shows n k.In line SETS ∷ []))
+
 module _ (factor : ℕ → ℕ → Prog Factor) (most : ℕ)
     (h : (n a : ℕ) (f : Factor) (rest : List Token) → n ≤ NESTING_LIMIT → length (factor_words n a f) < most
-        → EndsFactor (head rest).kind → Reaches (factor n a) (factor_words n a f) (Ok (f, rest)) rest) where
+    → EndsFactor (head rest).kind → Reaches (factor n a) (factor_words n a f) (Ok (f, rest)) rest) where
   next_factor : (n a : ℕ) (left : Term) (op : Multiplying) (line : ℕ)
       → behind_factor factor most n a left (multiplying_kind op) nothing line ≡ factor_behind factor most n a left op line
   next_factor n a left multiplying.Times line = refl
@@ -133,7 +270,7 @@ module _ (factor : ℕ → ℕ → Prog Factor) (most : ℕ)
       (deep_operator n (a + 1 + term_depth left) (multiplying_kind op.item) op.line fits)
       (sound_operator n (a + 1 + term_depth left) (multiplying_kind op.item) op.line fits)
       (λ few. reaches_last (factor n (a + 1)) (λ right. done (tree.more_factors left op right)) ws f (tokens_in vs ++ rest)
-          (h n (a + 1) f (tokens_in vs ++ rest) fits short end))
+      (h n (a + 1) f (tokens_in vs ++ rest) fits short end))
       then))
   reaches_term_on n a fits (tree.quotient left line) left_turns vs r rest is less end then =
       let w = shows n k.Slash line REAL_NUMBERS in
@@ -154,3 +291,149 @@ module _ (factor : ℕ → ℕ → Prog Factor) (most : ℕ)
       (reaches_term_on n a fits t (suc left_turns) [] (Ok (t, rest)) rest is less (factor_ends (head rest).kind end)
       (reaches_end (behind_factor factor most n a) left_turns t rest
       (no_factor n a t (head rest).kind (head rest).payload (head rest).line end)))
+
+  next_term : (n a : ℕ) (left : Sum) (op : Adding) (line : ℕ)
+      → behind_term factor most n a left (adding_kind op) nothing line ≡ term_behind factor most n a left op line
+  next_term n a left adding.Plus line = refl
+  next_term n a left adding.Minus line = refl
+  next_term n a left adding.Or line = refl
+
+  no_term : (n a : ℕ) (left : Sum) (kind : Kind) (payload : Payload) (line : ℕ) → EndsSum kind
+      → behind_term factor most n a left kind payload line ≡ ends
+  no_term n a left k.Plus payload line e = absurd e
+  no_term n a left k.Minus payload line e = absurd e
+  no_term n a left k.Or payload line e = absurd e
+  no_term n a left k.In payload line e = absurd e
+  no_term n a left kind payload line e = refl
+
+  signed : (n a : ℕ) (lead : Sign) (line : ℕ)
+      → first_term_at factor most n a (sign_kind lead) nothing line ≡ signed_by factor most n a lead line
+  signed n a sign.Plus line = refl
+  signed n a sign.Minus line = refl
+
+  unsigned : (n a : ℕ) (kind : Kind) (payload : Payload) (line : ℕ) → IsNoSign kind
+      → first_term_at factor most n a kind payload line ≡ bind (term_by factor most n a) (λ t. done (tree.first_term t))
+  unsigned n a k.Plus payload line e = absurd e
+  unsigned n a k.Minus payload line e = absurd e
+  unsigned n a kind payload line e = refl
+
+  -- a sum, behind which the loop goes on with the turns that are left
+  reaches_sum_on : (n a : ℕ) → n ≤ NESTING_LIMIT → (s : Sum) (left_turns : ℕ) (vs : List Word) (r : Out Sum)
+      (rest : List Token) → most ≡ left_turns + turns_of_sum s → length (sum_words n a s) < most
+      → EndsTerm (head (tokens_in vs ++ rest)).kind
+      → Reaches (turns (behind_term factor most n a) left_turns s) vs r rest
+      → Reaches (sum_by factor most n a) (sum_words n a s ++ vs) r rest
+  reaches_sum_on n a fits (tree.first_term t) left_turns vs r rest is less end then =
+      let same : left_turns ≡ most = omega (arith, is) in
+      let us = term_words n a t in
+      let behind = tokens_in vs ++ rest in
+      let first = head (tokens_in us ++ behind) in
+      reaches_bind (look (first_term_at factor most n a)) (λ s. turns (behind_term factor most n a) most s) us vs
+      (tree.first_term t) r rest
+      (reaches_look (first_term_at factor most n a) (bind (term_by factor most n a) (λ t. done (tree.first_term t))) us
+      (Ok (tree.first_term t, behind)) behind
+      (unsigned n a first.kind first.payload first.line (starts_head us behind (starts_term n a t)))
+      (reaches_last (term_by factor most n a) (λ t. done (tree.first_term t)) us t behind
+      (reaches_term n a fits t behind less end)))
+      (subst (λ m. Reaches (turns (behind_term factor most n a) m (tree.first_term t)) vs r rest) same then)
+  reaches_sum_on n a fits (tree.signed_term lead t) left_turns vs r rest is less end then =
+      let same : left_turns ≡ most = omega (arith, is) in
+      let w = operator n (a + 1) (sign_kind lead.item) lead.line in
+      let us = term_words n (a + 1) t in
+      let behind = tokens_in vs ++ rest in
+      let short : length us < most = omega (arith, less) in
+      reaches_bind (look (first_term_at factor most n a)) (λ s. turns (behind_term factor most n a) most s) (w ∷ us) vs
+      (tree.signed_term lead t) r rest
+      (reaches_look (first_term_at factor most n a) (signed_by factor most n a lead.item lead.line) (w ∷ us)
+      (Ok (tree.signed_term lead t, behind)) behind (signed n a lead.item lead.line)
+      (reaches_unless w us (nat_lt NESTING_LIMIT (a + 1))
+      (bind (term_by factor most n (a + 1)) (λ t. done (tree.signed_term lead t))) (Ok (tree.signed_term lead t, behind)) behind
+      (deep_operator n (a + 1) (sign_kind lead.item) lead.line fits)
+      (sound_operator n (a + 1) (sign_kind lead.item) lead.line fits)
+      (λ few. reaches_last (term_by factor most n (a + 1)) (λ t. done (tree.signed_term lead t)) us t behind
+      (reaches_term n (a + 1) fits t behind short end))))
+      (subst (λ m. Reaches (turns (behind_term factor most n a) m (tree.signed_term lead t)) vs r rest) same then)
+  reaches_sum_on n a fits (tree.more_terms left op t) left_turns vs r rest is less end then =
+      let w = operator n (a + 1 + sum_depth left) (adding_kind op.item) op.line in
+      let us = sum_words n a left in
+      let ws = term_words n (a + 1) t in
+      let count : length (us ++ w ∷ ws) ≡ length us + length (w ∷ ws) = length-append us (w ∷ ws) in
+      let more_turns : most ≡ suc left_turns + turns_of_sum left = omega (arith, is) in
+      let shorter : length us < most = omega (arith, less, count) in
+      let short : length ws < most = omega (arith, less, count) in
+      subst (λ all. Reaches (sum_by factor most n a) all r rest) (sym (append_assoc us (w ∷ ws) vs))
+      (reaches_sum_on n a fits left (suc left_turns) (w ∷ (ws ++ vs)) r rest more_turns shorter (adding_ends op.item)
+      (reaches_turn (behind_term factor most n a) left_turns left w (tree.more_terms left op t) ws vs
+      (bind (term_by factor most n (a + 1)) (λ right. done (tree.more_terms left op right)))
+      (nat_lt NESTING_LIMIT (a + 1 + sum_depth left)) r rest (next_term n a left op.item op.line)
+      (deep_operator n (a + 1 + sum_depth left) (adding_kind op.item) op.line fits)
+      (sound_operator n (a + 1 + sum_depth left) (adding_kind op.item) op.line fits)
+      (λ few. reaches_last (term_by factor most n (a + 1)) (λ right. done (tree.more_terms left op right)) ws t
+      (tokens_in vs ++ rest) (reaches_term n (a + 1) fits t (tokens_in vs ++ rest) short end))
+      then))
+  reaches_sum_on n a fits (tree.membership left line) left_turns vs r rest is less end then =
+      let w = shows n k.In line SETS in
+      let us = sum_words n a left in
+      let count : length (us ++ w ∷ []) ≡ length us + length (w ∷ []) = length-append us (w ∷ []) in
+      let more_turns : most ≡ suc left_turns + turns_of_sum left = omega (arith, is) in
+      let shorter : length us < most = omega (arith, less, count) in
+      subst (λ all. Reaches (sum_by factor most n a) all r rest) (sym (append_assoc us (w ∷ []) vs))
+      (reaches_sum_on n a fits left (suc left_turns) (w ∷ vs) r rest more_turns shorter tt
+      (reaches_no (behind_term factor most n a) left_turns left w SETS vs r rest refl refl))
+
+  pub reaches_sum : (n a : ℕ) → n ≤ NESTING_LIMIT → (s : Sum) (rest : List Token) → length (sum_words n a s) < most
+      → EndsSum (head rest).kind → Reaches (sum_by factor most n a) (sum_words n a s) (Ok (s, rest)) rest
+  reaches_sum n a fits s rest less end =
+      let left_turns = most - suc (turns_of_sum s) in
+      let is : most ≡ suc left_turns + turns_of_sum s = omega (arith, less, few_turns_of_sum n a s) in
+      subst (λ all. Reaches (sum_by factor most n a) all (Ok (s, rest)) rest) (append-nil (sum_words n a s))
+      (reaches_sum_on n a fits s (suc left_turns) [] (Ok (s, rest)) rest is less (term_ends (head rest).kind end)
+      (reaches_end (behind_term factor most n a) left_turns s rest
+      (no_term n a s (head rest).kind (head rest).payload (head rest).line end)))
+
+  -- an expression
+  next_relation : (n a : ℕ) (left : Sum) (op : Relation) (line : ℕ)
+      → behind_sum factor most n a left (relation_kind op) nothing line ≡ related_by factor most n a left op line
+  next_relation n a left relates.Equal line = refl
+  next_relation n a left relates.NotEqual line = refl
+  next_relation n a left relates.Less line = refl
+  next_relation n a left relates.LessOrEqual line = refl
+  next_relation n a left relates.Greater line = refl
+  next_relation n a left relates.GreaterOrEqual line = refl
+
+  no_relation : (n a : ℕ) (left : Sum) (kind : Kind) (payload : Payload) (line : ℕ) → EndsExpr kind
+      → behind_sum factor most n a left kind payload line ≡ done (tree.sum left)
+  no_relation n a left k.Equal payload line e = absurd e
+  no_relation n a left k.NotEqual payload line e = absurd e
+  no_relation n a left k.Less payload line e = absurd e
+  no_relation n a left k.LessOrEqual payload line e = absurd e
+  no_relation n a left k.Greater payload line e = absurd e
+  no_relation n a left k.GreaterOrEqual payload line e = absurd e
+  no_relation n a left kind payload line e = refl
+
+  pub reaches_expr : (n a : ℕ) → n ≤ NESTING_LIMIT → (e : Expr) (rest : List Token) → length (expr_words n a e) < most
+      → EndsExpr (head rest).kind → Reaches (expr_by factor most n a) (expr_words n a e) (Ok (e, rest)) rest
+  reaches_expr n a fits (tree.sum s) rest less end =
+      subst (λ r. Reaches (expr_by factor most n a) (sum_words n a s) r rest)
+      (ap (λ q. run q rest) (no_relation n a s (head rest).kind (head rest).payload (head rest).line end))
+      (reaches_last (sum_by factor most n a) (λ left. look (behind_sum factor most n a left)) (sum_words n a s) s rest
+      (reaches_sum n a fits s rest less (sum_ends (head rest).kind end)))
+  reaches_expr n a fits (tree.relation left op right) rest less end =
+      let w = operator n (a + 1 + sum_depth left) (relation_kind op.item) op.line in
+      let us = sum_words n a left in
+      let ws = sum_words n (a + 1) right in
+      let count : length (us ++ w ∷ ws) ≡ length us + length (w ∷ ws) = length-append us (w ∷ ws) in
+      let shorter : length us < most = omega (arith, less, count) in
+      let short : length ws < most = omega (arith, less, count) in
+      let further = λ (right : Sum). done (tree.relation left op right) in
+      reaches_bind (sum_by factor most n a) (λ left. look (behind_sum factor most n a left)) us (w ∷ ws) left
+      (Ok (tree.relation left op right, rest)) rest
+      (reaches_sum n a fits left (tokens_in (w ∷ ws) ++ rest) shorter (relation_ends op.item))
+      (reaches_look (behind_sum factor most n a left) (related_by factor most n a left op.item op.line) (w ∷ ws)
+      (Ok (tree.relation left op right, rest)) rest (next_relation n a left op.item op.line)
+      (reaches_unless w ws (nat_lt NESTING_LIMIT (a + 1 + sum_depth left)) (bind (sum_by factor most n (a + 1)) further)
+      (Ok (tree.relation left op right, rest)) rest
+      (deep_operator n (a + 1 + sum_depth left) (relation_kind op.item) op.line fits)
+      (sound_operator n (a + 1 + sum_depth left) (relation_kind op.item) op.line fits)
+      (λ few. reaches_last (sum_by factor most n (a + 1)) further ws right rest
+      (reaches_sum n (a + 1) fits right rest short (sum_ends (head rest).kind end)))))

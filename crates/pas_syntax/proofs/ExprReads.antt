@@ -120,7 +120,7 @@ module _ (n : ℕ) (fits : n ≤ NESTING_LIMIT) where
       reads_skip (IsTaken n k.RightParenthesis) Any (at n k.RightParenthesis line) (done line) (λ e. cc)
       (sound_says n k.RightParenthesis nothing line fits)
       (λ ts. reads_done (λ x ws. IsTaken n k.RightParenthesis x (at n k.RightParenthesis line ∷ ws)) Any (head ts) line
-          refl tt ts refl)
+      refl tt ts refl)
   reads_right_parenthesis_at kind payload line =
       reads_wrong (IsTaken n k.RightParenthesis) Any (a_token kind payload line) 0 (at n k.RightParenthesis 0) [] refl
 
@@ -134,7 +134,7 @@ module _ (n : ℕ) (fits : n ≤ NESTING_LIMIT) where
       reads_skip (IsTaken n k.RightBracket) Any (at n k.RightBracket line) (done line) (λ e. cc)
       (sound_says n k.RightBracket nothing line fits)
       (λ ts. reads_done (λ x ws. IsTaken n k.RightBracket x (at n k.RightBracket line ∷ ws)) Any (head ts) line
-          refl tt ts refl)
+      refl tt ts refl)
   reads_right_bracket_at kind payload line =
       reads_wrong (IsTaken n k.RightBracket) Any (a_token kind payload line) 0 (at n k.RightBracket 0) [] refl
 
@@ -149,7 +149,7 @@ pub reads_closing : {B : Type 0} (P : B → List Word → Type 0) (n : ℕ) (kin
 reads_closing P n kind taking make h spelled =
     reads_bind (IsTaken n kind) Any P Any (λ closed. done (make closed)) (look taking) h
     (λ closed vs t also _. reads_done (λ b ws. P b (vs ++ ws)) Any t (make closed)
-        (rw (append-nil vs, also) (spelled closed)) tt)
+    (rw (append-nil vs, also) (spelled closed)) tt)
     (λ closed vs also. (make closed, [], rw (append-nil vs, also) (spelled closed)))
 
 module _ (factor : ℕ → ℕ → Prog Factor) (most : ℕ)
@@ -171,21 +171,34 @@ module _ (factor : ℕ → ℕ → Prog Factor) (most : ℕ)
         begins_unless (IsTerm n a) us w.token (nat_lt NESTING_LIMIT (a + 1 + term_depth left))
         (bind (factor n (a + 1)) (λ f. done (tree.more_factors left (lined op line) f)))
         (λ deep. record {
-          tree = tree.more_factors left (lined op line) zero_literal; word = w; behind = zero_word n ∷ [];
-          spelled = one_factor_more left us op line zero_literal (zero_word n ∷ []) is refl; same = refl;
+          tree = tree.more_factors left (lined op line) zero_literal;
+          word = w;
+          behind = zero_word n ∷ [];
+          spelled = one_factor_more left us op line zero_literal (zero_word n ∷ []) is refl;
+          same = refl;
           shows = deep_operator n (a + 1 + term_depth left) (multiplying_kind op) line fits deep;
         })
-        (λ few. (w, refl, multiplying_goes_on op,
-            sound_operator n (a + 1 + term_depth left) (multiplying_kind op) line fits few,
-            reads_bind (IsFactor n (a + 1)) Any (λ t vs. IsTerm n a t (us ++ w ∷ vs)) Any
-            (λ f. done (tree.more_factors left (lined op line) f)) (factor n (a + 1)) (h n (a + 1) fits)
-            (λ f vs t also _. reads_done (λ t ws. IsTerm n a t (us ++ w ∷ (vs ++ ws))) Any t
-                (tree.more_factors left (lined op line) f)
-                (rw (append-nil vs) (one_factor_more left us op line f vs is also)) tt)
-            (λ f vs also. (tree.more_factors left (lined op line) f, [],
-                rw (append-nil vs) (one_factor_more left us op line f vs is also))),
-            (tree.more_factors left (lined op line) zero_literal, zero_word n ∷ [],
-                one_factor_more left us op line zero_literal (zero_word n ∷ []) is refl)))
+        (λ few. (
+          w,
+          refl,
+          multiplying_goes_on op,
+          sound_operator n (a + 1 + term_depth left) (multiplying_kind op) line fits few,
+          reads_bind (IsFactor n (a + 1)) Any (λ t vs. IsTerm n a t (us ++ w ∷ vs)) Any
+              (λ f. done (tree.more_factors left (lined op line) f)) (factor n (a + 1)) (h n (a + 1) fits)
+              (λ f vs t also _. reads_done (λ t ws. IsTerm n a t (us ++ w ∷ (vs ++ ws))) Any t
+              (tree.more_factors left (lined op line) f)
+              (rw (append-nil vs) (one_factor_more left us op line f vs is also)) tt)
+              (λ f vs also. (
+                tree.more_factors left (lined op line) f,
+                [],
+                rw (append-nil vs) (one_factor_more left us op line f vs is also),
+              )),
+          (
+            tree.more_factors left (lined op line) zero_literal,
+            zero_word n ∷ [],
+            one_factor_more left us op line zero_literal (zero_word n ∷ []) is refl,
+          ),
+        ))
 
     slash_turn : (left : Term) (us : List Word) (line : ℕ) → IsTerm n a left us
         → Begins (IsTerm n a) us (a_token k.Slash nothing line) (no (shown REAL_NUMBERS))
@@ -206,7 +219,7 @@ module _ (factor : ℕ → ℕ → Prog Factor) (most : ℕ)
         reads_bind (IsFactor n a) Any (IsTerm n a) Any
         (λ first. turns (behind_factor factor most n a) most (tree.first_factor first)) (factor n a) (h n a fits)
         (λ f us t is _ ts _. reads_turns (IsTerm n a) (behind_factor factor most n a) begins_term most
-            (tree.first_factor f) us is ts)
+        (tree.first_factor f) us is ts)
         (λ f us is. (tree.first_factor f, [], rw (append-nil us) is))
 
   -- a sum
@@ -227,21 +240,34 @@ module _ (factor : ℕ → ℕ → Prog Factor) (most : ℕ)
         begins_unless (IsSum n a) us w.token (nat_lt NESTING_LIMIT (a + 1 + sum_depth left))
         (bind (term_by factor most n (a + 1)) (λ t. done (tree.more_terms left (lined op line) t)))
         (λ deep. record {
-          tree = tree.more_terms left (lined op line) zero_term; word = w; behind = zero_word n ∷ [];
-          spelled = one_term_more left us op line zero_term (zero_word n ∷ []) is refl; same = refl;
+          tree = tree.more_terms left (lined op line) zero_term;
+          word = w;
+          behind = zero_word n ∷ [];
+          spelled = one_term_more left us op line zero_term (zero_word n ∷ []) is refl;
+          same = refl;
           shows = deep_operator n (a + 1 + sum_depth left) (adding_kind op) line fits deep;
         })
-        (λ few. (w, refl, adding_goes_on op,
-            sound_operator n (a + 1 + sum_depth left) (adding_kind op) line fits few,
-            reads_bind (IsTerm n (a + 1)) Any (λ s vs. IsSum n a s (us ++ w ∷ vs)) Any
-            (λ t. done (tree.more_terms left (lined op line) t)) (term_by factor most n (a + 1)) (reads_term n (a + 1) fits)
-            (λ t vs u also _. reads_done (λ s ws. IsSum n a s (us ++ w ∷ (vs ++ ws))) Any u
-                (tree.more_terms left (lined op line) t)
-                (rw (append-nil vs) (one_term_more left us op line t vs is also)) tt)
-            (λ t vs also. (tree.more_terms left (lined op line) t, [],
-                rw (append-nil vs) (one_term_more left us op line t vs is also))),
-            (tree.more_terms left (lined op line) zero_term, zero_word n ∷ [],
-                one_term_more left us op line zero_term (zero_word n ∷ []) is refl)))
+        (λ few. (
+          w,
+          refl,
+          adding_goes_on op,
+          sound_operator n (a + 1 + sum_depth left) (adding_kind op) line fits few,
+          reads_bind (IsTerm n (a + 1)) Any (λ s vs. IsSum n a s (us ++ w ∷ vs)) Any
+              (λ t. done (tree.more_terms left (lined op line) t)) (term_by factor most n (a + 1)) (reads_term n (a + 1) fits)
+              (λ t vs u also _. reads_done (λ s ws. IsSum n a s (us ++ w ∷ (vs ++ ws))) Any u
+              (tree.more_terms left (lined op line) t)
+              (rw (append-nil vs) (one_term_more left us op line t vs is also)) tt)
+              (λ t vs also. (
+                tree.more_terms left (lined op line) t,
+                [],
+                rw (append-nil vs) (one_term_more left us op line t vs is also),
+              )),
+          (
+            tree.more_terms left (lined op line) zero_term,
+            zero_word n ∷ [],
+            one_term_more left us op line zero_term (zero_word n ∷ []) is refl,
+          ),
+        ))
 
     in_turn : (left : Sum) (us : List Word) (line : ℕ) → IsSum n a left us
         → Begins (IsSum n a) us (a_token k.In nothing line) (no (shown SETS))
@@ -264,17 +290,20 @@ module _ (factor : ℕ → ℕ → Prog Factor) (most : ℕ)
         reads_unless (IsSum n a) w.token (nat_lt NESTING_LIMIT (a + 1))
         (skip (bind (term_by factor most n (a + 1)) further))
         (λ deep. record {
-          tree = tree.signed_term (lined lead line) (tree.first_factor zero_literal); word = w;
-          behind = zero_word n ∷ []; spelled = refl; same = refl;
+          tree = tree.signed_term (lined lead line) (tree.first_factor zero_literal);
+          word = w;
+          behind = zero_word n ∷ [];
+          spelled = refl;
+          same = refl;
           shows = deep_operator n (a + 1) (sign_kind lead) line fits deep;
         })
         (λ few. reads_skip (IsSum n a) Any w (bind (term_by factor most n (a + 1)) further) (sign_goes_on lead)
-            (sound_operator n (a + 1) (sign_kind lead) line fits few)
-            (reads_bind (IsTerm n (a + 1)) Any (λ s vs. IsSum n a s (w ∷ vs)) Any further (term_by factor most n (a + 1))
-            (reads_term n (a + 1) fits)
-            (λ t us u is _. reads_done (λ s ws. IsSum n a s (w ∷ (us ++ ws))) Any u (tree.signed_term (lined lead line) t)
-                (rw (append-nil us, is) refl) tt)
-            (λ t us is. (tree.signed_term (lined lead line) t, [], rw (append-nil us, is) refl))))
+        (sound_operator n (a + 1) (sign_kind lead) line fits few)
+        (reads_bind (IsTerm n (a + 1)) Any (λ s vs. IsSum n a s (w ∷ vs)) Any further (term_by factor most n (a + 1))
+        (reads_term n (a + 1) fits)
+        (λ t us u is _. reads_done (λ s ws. IsSum n a s (w ∷ (us ++ ws))) Any u (tree.signed_term (lined lead line) t)
+        (rw (append-nil us, is) refl) tt)
+        (λ t us is. (tree.signed_term (lined lead line) t, [], rw (append-nil us, is) refl))))
 
     reads_unsigned : Reads (IsSum n a) Any (bind (term_by factor most n a) (λ t. done (tree.first_term t)))
     reads_unsigned =
@@ -301,7 +330,7 @@ module _ (factor : ℕ → ℕ → Prog Factor) (most : ℕ)
   module _ (n a : ℕ) (fits : n ≤ NESTING_LIMIT) where
     reads_related : (left : Sum) (us : List Word) (op : Relation) (line : ℕ) → IsSum n a left us
         → ReadsAt (a_token (relation_kind op) nothing line) (λ x vs. IsExpr n a x (us ++ vs)) Any
-          (related_by factor most n a left op line)
+        (related_by factor most n a left op line)
     reads_related left us op line is =
         let w = operator n (a + 1 + sum_depth left) (relation_kind op) line in
         let make = λ (right : Sum). tree.relation left (lined op line) right in
@@ -309,21 +338,24 @@ module _ (factor : ℕ → ℕ → Prog Factor) (most : ℕ)
         reads_unless (λ x vs. IsExpr n a x (us ++ vs)) w.token (nat_lt NESTING_LIMIT (a + 1 + sum_depth left))
         (skip (bind (sum_by factor most n (a + 1)) further))
         (λ deep. record {
-          tree = make (tree.first_term (tree.first_factor zero_literal)); word = w; behind = zero_word n ∷ [];
-          spelled = rw is refl; same = refl;
+          tree = make (tree.first_term (tree.first_factor zero_literal));
+          word = w;
+          behind = zero_word n ∷ [];
+          spelled = rw is refl;
+          same = refl;
           shows = deep_operator n (a + 1 + sum_depth left) (relation_kind op) line fits deep;
         })
         (λ few. reads_skip (λ x vs. IsExpr n a x (us ++ vs)) Any w (bind (sum_by factor most n (a + 1)) further)
-            (relation_goes_on op) (sound_operator n (a + 1 + sum_depth left) (relation_kind op) line fits few)
-            (reads_bind (IsSum n (a + 1)) Any (λ x vs. IsExpr n a x (us ++ w ∷ vs)) Any further
-            (sum_by factor most n (a + 1)) (reads_sum n (a + 1) fits)
-            (λ right vs t also _. reads_done (λ x ws. IsExpr n a x (us ++ w ∷ (vs ++ ws))) Any t (make right)
-                (rw (append-nil vs, is, also) refl) tt)
-            (λ right vs also. (make right, [], rw (append-nil vs, is, also) refl))))
+        (relation_goes_on op) (sound_operator n (a + 1 + sum_depth left) (relation_kind op) line fits few)
+        (reads_bind (IsSum n (a + 1)) Any (λ x vs. IsExpr n a x (us ++ w ∷ vs)) Any further
+        (sum_by factor most n (a + 1)) (reads_sum n (a + 1) fits)
+        (λ right vs t also _. reads_done (λ x ws. IsExpr n a x (us ++ w ∷ (vs ++ ws))) Any t (make right)
+        (rw (append-nil vs, is, also) refl) tt)
+        (λ right vs also. (make right, [], rw (append-nil vs, is, also) refl))))
 
     reads_behind_sum : (left : Sum) (us : List Word) → IsSum n a left us → (kind : Kind) (payload : Payload) (line : ℕ)
         → ReadsAt (a_token kind payload line) (λ x vs. IsExpr n a x (us ++ vs)) Any
-          (behind_sum factor most n a left kind payload line)
+        (behind_sum factor most n a left kind payload line)
     reads_behind_sum left us is k.Equal nothing line = reads_related left us relates.Equal line is
     reads_behind_sum left us is k.NotEqual nothing line = reads_related left us relates.NotEqual line is
     reads_behind_sum left us is k.Less nothing line = reads_related left us relates.Less line is
@@ -339,7 +371,7 @@ module _ (factor : ℕ → ℕ → Prog Factor) (most : ℕ)
         reads_bind (IsSum n a) Any (IsExpr n a) Any (λ left. look (behind_sum factor most n a left))
         (sum_by factor most n a) (reads_sum n a fits)
         (λ left us t is _ ts _. reads_look (λ x vs. IsExpr n a x (us ++ vs)) Any (behind_sum factor most n a left)
-            (reads_behind_sum left us is) ts)
+        (reads_behind_sum left us is) ts)
         (λ left us is. (tree.sum left, [], rw (append-nil us) is))
 
     -- a list of expressions
@@ -349,16 +381,26 @@ module _ (factor : ℕ → ℕ → Prog Factor) (most : ℕ)
 
     begins_exprs : (others : Exprs) (us : List Word) → IsExprs n a others us → (kind : Kind) (payload : Payload) (line : ℕ)
         → Begins (IsExprs n a) us (a_token kind payload line) (behind_expr factor most n a others kind payload line)
-    begins_exprs others us is k.Comma nothing line =
-        (at n k.Comma line, refl, λ e. cc, sound_says n k.Comma nothing line fits,
-        reads_bind (IsExpr n a) Any (λ x vs. IsExprs n a x (us ++ at n k.Comma line ∷ vs)) Any
-        (λ e. done (tree.more_exprs others line e)) (expr_by factor most n a) reads_expr
-        (λ e vs t also _. reads_done (λ x ws. IsExprs n a x (us ++ at n k.Comma line ∷ (vs ++ ws))) Any t
-            (tree.more_exprs others line e) (rw (append-nil vs) (one_expr_more others us line e vs is also)) tt)
-        (λ e vs also. (tree.more_exprs others line e, [],
-            rw (append-nil vs) (one_expr_more others us line e vs is also))),
-        (tree.more_exprs others line zero_expr, zero_word n ∷ [],
-            one_expr_more others us line zero_expr (zero_word n ∷ []) is refl))
+    begins_exprs others us is k.Comma nothing line = (
+      at n k.Comma line,
+      refl,
+      λ e. cc,
+      sound_says n k.Comma nothing line fits,
+      reads_bind (IsExpr n a) Any (λ x vs. IsExprs n a x (us ++ at n k.Comma line ∷ vs)) Any
+          (λ e. done (tree.more_exprs others line e)) (expr_by factor most n a) reads_expr
+          (λ e vs t also _. reads_done (λ x ws. IsExprs n a x (us ++ at n k.Comma line ∷ (vs ++ ws))) Any t
+          (tree.more_exprs others line e) (rw (append-nil vs) (one_expr_more others us line e vs is also)) tt)
+          (λ e vs also. (
+            tree.more_exprs others line e,
+            [],
+            rw (append-nil vs) (one_expr_more others us line e vs is also),
+          )),
+      (
+        tree.more_exprs others line zero_expr,
+        zero_word n ∷ [],
+        one_expr_more others us line zero_expr (zero_word n ∷ []) is refl,
+      ),
+    )
     begins_exprs others us is kind payload line = tt
 
     pub reads_exprs : Reads (IsExprs n a) Any (exprs_by factor most n a)
@@ -366,14 +408,14 @@ module _ (factor : ℕ → ℕ → Prog Factor) (most : ℕ)
         reads_bind (IsExpr n a) Any (IsExprs n a) Any
         (λ first. turns (behind_expr factor most n a) most (tree.first_expr first)) (expr_by factor most n a) reads_expr
         (λ e us t is _ ts _. reads_turns (IsExprs n a) (behind_expr factor most n a) begins_exprs most
-            (tree.first_expr e) us is ts)
+        (tree.first_expr e) us is ts)
         (λ e us is. (tree.first_expr e, [], rw (append-nil us) is))
 
   -- a variable
   module _ (n a : ℕ) (fits : n ≤ NESTING_LIMIT) where
     indexes_turn : (v : Variable) (us : List Word) (line : ℕ) → IsVariable n a v us
         → Begins (IsVariable n a) us (a_token k.LeftBracket nothing line)
-          (behind_variable factor most n a v k.LeftBracket nothing line)
+        (behind_variable factor most n a v k.LeftBracket nothing line)
     indexes_turn v us line is =
         let w = at (n + 1) k.LeftBracket line in
         let further = λ (es : Exprs). bind (look right_bracket_at) (λ closed. done (tree.indexed v line es closed)) in
@@ -381,39 +423,56 @@ module _ (factor : ℕ → ℕ → Prog Factor) (most : ℕ)
         let behind = zero_word (n + 1) ∷ at (n + 1) k.RightBracket 0 ∷ [] in
         begins_unless (IsVariable n a) us w.token (nat_lt NESTING_LIMIT (n + 1)) (indexes_by factor most n a v line)
         (λ deep. record {
-          tree = tree.indexed v line some 0; word = w; behind = behind; spelled = rw is refl; same = refl;
+          tree = tree.indexed v line some 0;
+          word = w;
+          behind = behind;
+          spelled = rw is refl;
+          same = refl;
           shows = deep_form (n + 1) k.LeftBracket line deep;
         })
-        (λ few. (w, refl, (λ e. cc), sound_says (n + 1) k.LeftBracket nothing line (fits_of (n + 1) few),
-            reads_bind (IsExprs (n + 1) a) Any (λ x vs. IsVariable n a x (us ++ w ∷ vs)) Any further
-            (exprs_by factor most (n + 1) a) (reads_exprs (n + 1) a (fits_of (n + 1) few))
-            (λ es vs t also _ ts _. reads_closing (λ x ws. IsVariable n a x (us ++ w ∷ (vs ++ ws))) (n + 1)
-                k.RightBracket right_bracket_at (λ closed. tree.indexed v line es closed)
-                (reads_right_bracket (n + 1) (fits_of (n + 1) few)) (λ closed. rw (is, also) refl) ts)
-            (λ es vs also. (tree.indexed v line es 0, at (n + 1) k.RightBracket 0 ∷ [], rw (is, also) refl)),
-            (tree.indexed v line some 0, behind, rw is refl)))
+        (λ few. (
+          w,
+          refl,
+          (λ e. cc),
+          sound_says (n + 1) k.LeftBracket nothing line (fits_of (n + 1) few),
+          reads_bind (IsExprs (n + 1) a) Any (λ x vs. IsVariable n a x (us ++ w ∷ vs)) Any further
+              (exprs_by factor most (n + 1) a) (reads_exprs (n + 1) a (fits_of (n + 1) few))
+              (λ es vs t also _ ts _. reads_closing (λ x ws. IsVariable n a x (us ++ w ∷ (vs ++ ws))) (n + 1)
+              k.RightBracket right_bracket_at (λ closed. tree.indexed v line es closed)
+              (reads_right_bracket (n + 1) (fits_of (n + 1) few)) (λ closed. rw (is, also) refl) ts)
+              (λ es vs also. (tree.indexed v line es 0, at (n + 1) k.RightBracket 0 ∷ [], rw (is, also) refl)),
+          (tree.indexed v line some 0, behind, rw is refl),
+        ))
 
     field_turn : (v : Variable) (us : List Word) (line : ℕ) → IsVariable n a v us
         → Begins (IsVariable n a) us (a_token k.Dot nothing line)
-          (more (bind ident (λ name. done (tree.field_of v line name))))
+        (more (bind ident (λ name. done (tree.field_of v line name))))
     field_turn v us line is =
-        let w = at n k.Dot line in
-        (w, refl, (λ e. cc), sound_says n k.Dot nothing line fits,
-        reads_bind (IsIdent n) Any (λ x vs. IsVariable n a x (us ++ w ∷ vs)) Any (λ name. done (tree.field_of v line name))
-        ident (reads_ident n fits)
-        (λ name vs t also _. reads_done (λ x ws. IsVariable n a x (us ++ w ∷ (vs ++ ws))) Any t
-            (tree.field_of v line name) (rw (append-nil vs, is, also) refl) tt)
-        (λ name vs also. (tree.field_of v line name, [], rw (append-nil vs, is, also) refl)),
-        (tree.field_of v line (zero_ident n fits), name_at n (zero_ident n fits) ∷ [], rw is refl))
+        let w = at n k.Dot line in (
+          w,
+          refl,
+          (λ e. cc),
+          sound_says n k.Dot nothing line fits,
+          reads_bind (IsIdent n) Any (λ x vs. IsVariable n a x (us ++ w ∷ vs)) Any (λ name. done (tree.field_of v line name))
+              ident (reads_ident n fits)
+              (λ name vs t also _. reads_done (λ x ws. IsVariable n a x (us ++ w ∷ (vs ++ ws))) Any t
+              (tree.field_of v line name) (rw (append-nil vs, is, also) refl) tt)
+              (λ name vs also. (tree.field_of v line name, [], rw (append-nil vs, is, also) refl)),
+          (tree.field_of v line (zero_ident n fits), name_at n (zero_ident n fits) ∷ [], rw is refl),
+        )
 
     buffer_turn : (v : Variable) (us : List Word) (line : ℕ) → IsVariable n a v us
         → Begins (IsVariable n a) us (a_token k.Caret nothing line) (more (done (tree.buffer_of v line)))
     buffer_turn v us line is =
-        let w = at n k.Caret line in
-        (w, refl, (λ e. cc), sound_says n k.Caret nothing line fits,
-        (λ ts. reads_done (λ x vs. IsVariable n a x (us ++ w ∷ vs)) Any (head ts) (tree.buffer_of v line)
-            (rw is refl) tt ts refl),
-        (tree.buffer_of v line, [], rw is refl))
+        let w = at n k.Caret line in (
+          w,
+          refl,
+          (λ e. cc),
+          sound_says n k.Caret nothing line fits,
+          (λ ts. reads_done (λ x vs. IsVariable n a x (us ++ w ∷ vs)) Any (head ts) (tree.buffer_of v line)
+              (rw is refl) tt ts refl),
+          (tree.buffer_of v line, [], rw is refl),
+        )
 
     begins_variable : (v : Variable) (us : List Word) → IsVariable n a v us → (kind : Kind) (payload : Payload) (line : ℕ)
         → Begins (IsVariable n a) us (a_token kind payload line) (behind_variable factor most n a v kind payload line)
@@ -438,18 +497,21 @@ module _ (factor : ℕ → ℕ → Prog Factor) (most : ℕ)
         reads_unless (IsFactor n a) w.token (nat_lt NESTING_LIMIT (n + 1))
         (skip (bind (expr_by factor most (n + 1) a) further))
         (λ deep. record {
-          tree = tree.parenthesized line zero_expr 0; word = w;
-          behind = zero_word (n + 1) ∷ at (n + 1) k.RightParenthesis 0 ∷ []; spelled = refl; same = refl;
+          tree = tree.parenthesized line zero_expr 0;
+          word = w;
+          behind = zero_word (n + 1) ∷ at (n + 1) k.RightParenthesis 0 ∷ [];
+          spelled = refl;
+          same = refl;
           shows = deep_form (n + 1) k.LeftParenthesis line deep;
         })
         (λ few. reads_skip (IsFactor n a) Any w (bind (expr_by factor most (n + 1) a) further) (λ e. cc)
-            (sound_says (n + 1) k.LeftParenthesis nothing line (fits_of (n + 1) few))
-            (reads_bind (IsExpr (n + 1) a) Any (λ f vs. IsFactor n a f (w ∷ vs)) Any further
-            (expr_by factor most (n + 1) a) (reads_expr (n + 1) a (fits_of (n + 1) few))
-            (λ e us t is _ ts _. reads_closing (λ f ws. IsFactor n a f (w ∷ (us ++ ws))) (n + 1) k.RightParenthesis
-                right_parenthesis_at (λ closed. tree.parenthesized line e closed)
-                (reads_right_parenthesis (n + 1) (fits_of (n + 1) few)) (λ closed. rw is refl) ts)
-            (λ e us is. (tree.parenthesized line e 0, at (n + 1) k.RightParenthesis 0 ∷ [], rw is refl))))
+        (sound_says (n + 1) k.LeftParenthesis nothing line (fits_of (n + 1) few))
+        (reads_bind (IsExpr (n + 1) a) Any (λ f vs. IsFactor n a f (w ∷ vs)) Any further
+        (expr_by factor most (n + 1) a) (reads_expr (n + 1) a (fits_of (n + 1) few))
+        (λ e us t is _ ts _. reads_closing (λ f ws. IsFactor n a f (w ∷ (us ++ ws))) (n + 1) k.RightParenthesis
+        right_parenthesis_at (λ closed. tree.parenthesized line e closed)
+        (reads_right_parenthesis (n + 1) (fits_of (n + 1) few)) (λ closed. rw is refl) ts)
+        (λ e us is. (tree.parenthesized line e 0, at (n + 1) k.RightParenthesis 0 ∷ [], rw is refl))))
 
     reads_negated : (line : ℕ) → ReadsAt (a_token k.Not nothing line) (IsFactor n a) Any (negated_by factor most n a line)
     reads_negated line =
@@ -457,55 +519,62 @@ module _ (factor : ℕ → ℕ → Prog Factor) (most : ℕ)
         let further = λ (f : Factor). done (tree.negated line f) in
         reads_unless (IsFactor n a) w.token (nat_lt NESTING_LIMIT (a + 1)) (skip (bind (factor n (a + 1)) further))
         (λ deep. record {
-          tree = tree.negated line zero_literal; word = w; behind = zero_word n ∷ []; spelled = refl; same = refl;
+          tree = tree.negated line zero_literal;
+          word = w;
+          behind = zero_word n ∷ [];
+          spelled = refl;
+          same = refl;
           shows = deep_operator n (a + 1) k.Not line fits deep;
         })
         (λ few. reads_skip (IsFactor n a) Any w (bind (factor n (a + 1)) further) (λ e. cc)
-            (sound_operator n (a + 1) k.Not line fits few)
-            (reads_bind (IsFactor n (a + 1)) Any (λ f vs. IsFactor n a f (w ∷ vs)) Any further (factor n (a + 1))
-            (h n (a + 1) fits)
-            (λ f us t is _. reads_done (λ x ws. IsFactor n a x (w ∷ (us ++ ws))) Any t (tree.negated line f)
-                (rw (append-nil us, is) refl) tt)
-            (λ f us is. (tree.negated line f, [], rw (append-nil us, is) refl))))
+        (sound_operator n (a + 1) k.Not line fits few)
+        (reads_bind (IsFactor n (a + 1)) Any (λ f vs. IsFactor n a f (w ∷ vs)) Any further (factor n (a + 1))
+        (h n (a + 1) fits)
+        (λ f us t is _. reads_done (λ x ws. IsFactor n a x (w ∷ (us ++ ws))) Any t (tree.negated line f)
+        (rw (append-nil us, is) refl) tt)
+        (λ f us is. (tree.negated line f, [], rw (append-nil us, is) refl))))
 
     reads_call : (name : Ident) (line : ℕ)
         → ReadsAt (a_token k.LeftParenthesis nothing line) (λ f ws. IsFactor n a f (name_at n name ∷ ws)) Any
-          (call_by factor most n a name line)
+        (call_by factor most n a name line)
     reads_call name line =
         let w = at (n + 1) k.LeftParenthesis line in
         let u = name_at n name in
         let further = λ (es : Exprs). bind (look right_parenthesis_at)
-            (λ closed. done (tree.function_call name line es closed)) in
+        (λ closed. done (tree.function_call name line es closed)) in
         reads_unless (λ f ws. IsFactor n a f (u ∷ ws)) w.token (nat_lt NESTING_LIMIT (n + 1))
         (skip (bind (exprs_by factor most (n + 1) a) further))
         (λ deep. record {
-          tree = tree.function_call name line (tree.first_expr zero_expr) 0; word = w;
-          behind = zero_word (n + 1) ∷ at (n + 1) k.RightParenthesis 0 ∷ []; spelled = refl; same = refl;
+          tree = tree.function_call name line (tree.first_expr zero_expr) 0;
+          word = w;
+          behind = zero_word (n + 1) ∷ at (n + 1) k.RightParenthesis 0 ∷ [];
+          spelled = refl;
+          same = refl;
           shows = deep_form (n + 1) k.LeftParenthesis line deep;
         })
         (λ few. reads_skip (λ f ws. IsFactor n a f (u ∷ ws)) Any w (bind (exprs_by factor most (n + 1) a) further)
-            (λ e. cc) (sound_says (n + 1) k.LeftParenthesis nothing line (fits_of (n + 1) few))
-            (reads_bind (IsExprs (n + 1) a) Any (λ f vs. IsFactor n a f (u ∷ w ∷ vs)) Any further
-            (exprs_by factor most (n + 1) a) (reads_exprs (n + 1) a (fits_of (n + 1) few))
-            (λ es us t is _ ts _. reads_closing (λ f ws. IsFactor n a f (u ∷ w ∷ (us ++ ws))) (n + 1) k.RightParenthesis
-                right_parenthesis_at (λ closed. tree.function_call name line es closed)
-                (reads_right_parenthesis (n + 1) (fits_of (n + 1) few)) (λ closed. rw is refl) ts)
-            (λ es us is. (tree.function_call name line es 0, at (n + 1) k.RightParenthesis 0 ∷ [], rw is refl))))
+        (λ e. cc) (sound_says (n + 1) k.LeftParenthesis nothing line (fits_of (n + 1) few))
+        (reads_bind (IsExprs (n + 1) a) Any (λ f vs. IsFactor n a f (u ∷ w ∷ vs)) Any further
+        (exprs_by factor most (n + 1) a) (reads_exprs (n + 1) a (fits_of (n + 1) few))
+        (λ es us t is _ ts _. reads_closing (λ f ws. IsFactor n a f (u ∷ w ∷ (us ++ ws))) (n + 1) k.RightParenthesis
+        right_parenthesis_at (λ closed. tree.function_call name line es closed)
+        (reads_right_parenthesis (n + 1) (fits_of (n + 1) few)) (λ closed. rw is refl) ts)
+        (λ es us is. (tree.function_call name line es 0, at (n + 1) k.RightParenthesis 0 ∷ [], rw is refl))))
 
     reads_selected : (name : Ident)
         → Reads (λ f ws. IsFactor n a f (name_at n name ∷ ws)) Any
-          (bind (variable_by factor most n a name) (λ v. done (tree.variable v)))
+        (bind (variable_by factor most n a name) (λ v. done (tree.variable v)))
     reads_selected name =
         let u = name_at n name in
         reads_bind (λ v ws. IsVariable n a v (u ∷ ws)) Any (λ f ws. IsFactor n a f (u ∷ ws)) Any
         (λ v. done (tree.variable v)) (variable_by factor most n a name) (reads_variable n a fits name)
         (λ v us t is _. reads_done (λ f ws. IsFactor n a f (u ∷ (us ++ ws))) Any t (tree.variable v)
-            (rw (append-nil us) is) tt)
+        (rw (append-nil us) is) tt)
         (λ v us is. (tree.variable v, [], rw (append-nil us) is))
 
     reads_behind_name : (name : Ident) (kind : Kind) (payload : Payload) (line : ℕ)
         → ReadsAt (a_token kind payload line) (λ f ws. IsFactor n a f (name_at n name ∷ ws)) Any
-          (behind_name factor most n a name kind payload line)
+        (behind_name factor most n a name kind payload line)
     reads_behind_name name k.LeftParenthesis nothing line = reads_call name line
     reads_behind_name name kind payload line = λ ts is. reads_selected name ts
 
@@ -516,13 +585,13 @@ module _ (factor : ℕ → ℕ → Prog Factor) (most : ℕ)
         reads_skip (IsFactor n a) Any (number_at n found) (done (tree.literal found)) (λ e. cc)
         (sound_says n k.Number (value number) line fits)
         (λ ts. reads_done (λ f ws. IsFactor n a f (number_at n found ∷ ws)) Any (head ts) (tree.literal found) refl tt
-            ts refl)
+        ts refl)
     reads_factor_at k.Text (spelling text) line =
         let found : Quoted = record { text = text; line = line } in
         reads_skip (IsFactor n a) Any (text_at n found) (done (tree.literal_text found)) (λ e. cc)
         (sound_says n k.Text (spelling text) line fits)
         (λ ts. reads_done (λ f ws. IsFactor n a f (text_at n found ∷ ws)) Any (head ts) (tree.literal_text found) refl tt
-            ts refl)
+        ts refl)
     reads_factor_at k.LeftParenthesis nothing line = reads_parenthesized line
     reads_factor_at k.Not nothing line = reads_negated line
     reads_factor_at k.Name (spelling name) line =

@@ -72,14 +72,30 @@ module _ {A : Type 0} (P : A → List Word → Type 0) (E : A → Token → Type
   pub reads_shown : (t : Token) (part : ℕ) (a : A) (w : Word) (behind : List Word) → P a (w ∷ behind) → w.token ≡ t
       → fault_of w ≡ Some (left_out part) → ReadsAt t P E (fail (shown part))
   reads_shown t part a w behind p is h ts at_t =
-      record { tree = a; front = []; word = w; behind = behind; spelled = p; read = refl; sound = tt;
-        shows = (is ∙ sym at_t, h) }
+      record {
+        tree = a;
+        front = [];
+        word = w;
+        behind = behind;
+        spelled = p;
+        read = refl;
+        sound = tt;
+        shows = (is ∙ sym at_t, h);
+      }
 
   after_word_stops : (w : Word) (t : Token) (ts : List Token) (why : Why) (rest : List Token) → t ≡ w.token → IsSound w
       → Stops (λ a ws. P a (w ∷ ws)) ts why rest → Stops P (t ∷ ts) why rest
   after_word_stops w t ts why rest is none s =
-      record { tree = s.tree; front = w ∷ s.front; word = s.word; behind = s.behind; spelled = s.spelled;
-        read = rw is (ap (λ us. w.token ∷ us) s.read); sound = (none, s.sound); shows = s.shows }
+      record {
+        tree = s.tree;
+        front = w ∷ s.front;
+        word = s.word;
+        behind = s.behind;
+        spelled = s.spelled;
+        read = rw is (ap (λ us. w.token ∷ us) s.read);
+        sound = (none, s.sound);
+        shows = s.shows;
+      }
 
   after_word_fails : (w : Word) (t : Token) (ts : List Token) (why : Why) (rest : List Token) → t ≡ w.token → IsSound w
       → Fails (λ a ws. P a (w ∷ ws)) ts why rest → Fails P (t ∷ ts) why rest
@@ -89,8 +105,13 @@ module _ {A : Type 0} (P : A → List Word → Type 0) (E : A → Token → Type
   after_word : (w : Word) (t : Token) (ts : List Token) (r : Out A) → t ≡ w.token → IsSound w
       → Good (λ a ws. P a (w ∷ ws)) E ts r → Good P E (t ∷ ts) r
   after_word w t ts (Ok p) is none g =
-      record { words = w ∷ g.words; spelled = g.spelled; read = rw is (ap (λ us. w.token ∷ us) g.read);
-        sound = (none, g.sound); behind = g.behind }
+      record {
+        words = w ∷ g.words;
+        spelled = g.spelled;
+        read = rw is (ap (λ us. w.token ∷ us) g.read);
+        sound = (none, g.sound);
+        behind = g.behind;
+      }
   after_word w t ts (Err e) is none g = after_word_fails w t ts e.0 e.1 is none g
 
   pub reads_skip : (w : Word) (q : Prog A) → (k.EndOfText ≡ w.token.kind → ⊥) → IsSound w
@@ -116,8 +137,16 @@ module _ {A B : Type 0} (P : A → List Word → Type 0) (E : A → Token → Ty
   stops_first : (ts : List Token) (why : Why) (rest : List Token) → GoesOn → Stops P ts why rest → Stops R ts why rest
   stops_first ts why rest some s =
       let x = some s.tree (s.front ++ s.word ∷ s.behind) s.spelled in
-      record { tree = x.0; front = s.front; word = s.word; behind = s.behind ++ x.1; spelled = rw append_assoc at x.2;
-        read = s.read; sound = s.sound; shows = s.shows }
+      record {
+        tree = x.0;
+        front = s.front;
+        word = s.word;
+        behind = s.behind ++ x.1;
+        spelled = rw append_assoc at x.2;
+        read = s.read;
+        sound = s.sound;
+        shows = s.shows;
+      }
 
   fails_first : (ts : List Token) (why : Why) (rest : List Token) → GoesOn → Fails P ts why rest → Fails R ts why rest
   fails_first ts spent rest some s = tt
@@ -126,9 +155,16 @@ module _ {A B : Type 0} (P : A → List Word → Type 0) (E : A → Token → Ty
   stops_second : (us : List Word) (ts middle : List Token) (why : Why) (rest : List Token) → ts ≡ tokens_in us ++ middle
       → AreSound us → Stops (λ b vs. R b (us ++ vs)) middle why rest → Stops R ts why rest
   stops_second us ts middle why rest read sound s =
-      record { tree = s.tree; front = us ++ s.front; word = s.word; behind = s.behind;
-        spelled = rw append_assoc s.spelled; read = read_append us s.front ts middle rest read s.read;
-        sound = sound_append us s.front sound s.sound; shows = s.shows }
+      record {
+        tree = s.tree;
+        front = us ++ s.front;
+        word = s.word;
+        behind = s.behind;
+        spelled = rw append_assoc s.spelled;
+        read = read_append us s.front ts middle rest read s.read;
+        sound = sound_append us s.front sound s.sound;
+        shows = s.shows;
+      }
 
   fails_second : (us : List Word) (ts middle : List Token) (why : Why) (rest : List Token) → ts ≡ tokens_in us ++ middle
       → AreSound us → Fails (λ b vs. R b (us ++ vs)) middle why rest → Fails R ts why rest
@@ -138,8 +174,13 @@ module _ {A B : Type 0} (P : A → List Word → Type 0) (E : A → Token → Ty
   second : (us : List Word) (ts middle : List Token) (r : Out B) → ts ≡ tokens_in us ++ middle → AreSound us
       → Good (λ b vs. R b (us ++ vs)) F middle r → Good R F ts r
   second us ts middle (Ok p) read sound h =
-      record { words = us ++ h.words; spelled = h.spelled; read = read_append us h.words ts middle p.1 read h.read;
-        sound = sound_append us h.words sound h.sound; behind = h.behind }
+      record {
+        words = us ++ h.words;
+        spelled = h.spelled;
+        read = read_append us h.words ts middle p.1 read h.read;
+        sound = sound_append us h.words sound h.sound;
+        behind = h.behind;
+      }
   second us ts middle (Err e) read sound h = fails_second us ts middle e.0 e.1 read sound h
 
   first_then : (ts : List Token) (r : Out A) → Good P E ts r

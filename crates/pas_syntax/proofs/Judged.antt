@@ -56,8 +56,13 @@ module _ {A B : Type 0} where
       → Reaches q us (Ok (a, tokens_in vs ++ rest)) (tokens_in vs ++ rest) → Reaches (g a) vs r rest
       → Reaches (bind q g) (us ++ vs) r rest
   reaches_bind q g us vs a r rest h k =
-      rw (tokens_append us vs rest, run_bind q g (tokens_in us ++ (tokens_in vs ++ rest)), h,
-        judged_then us a g (tokens_in vs ++ rest), k)
+      rw (
+        tokens_append us vs rest,
+        run_bind q g (tokens_in us ++ (tokens_in vs ++ rest)),
+        h,
+        judged_then us a g (tokens_in vs ++ rest),
+        k,
+      )
       (sym (judged_append us vs r rest))
 
   -- with nothing behind

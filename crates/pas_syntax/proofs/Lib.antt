@@ -6,3 +6,4 @@ pub mod WordLemmas
 pub mod ReachLemmas
 pub mod ExprReads
 pub mod ExprReaches
+pub mod FactorReaches

@@ -49,17 +49,23 @@ head_used (t ∷ used) ts rest us e s = ap head e
 
 local_look : {A : Type 0} (next : Kind → Payload → ℕ → Prog A) (ts : List Token)
     → IsLocal (next (head ts).kind (head ts).payload (head ts).line) ts → IsLocal (look next) ts
-local_look next ts h =
-    (h.0, h.1, λ us s. ap (λ t. run (next t.kind t.payload t.line) (h.0 ++ us)) (sym (head_used h.0 ts _ us h.1 s))
-    ∙ h.2 us s)
+local_look next ts h = (
+  h.0,
+  h.1,
+  λ us s. ap (λ t. run (next t.kind t.payload t.line) (h.0 ++ us)) (sym (head_used h.0 ts _ us h.1 s))
+      ∙ h.2 us s,
+)
 
 pub local : {A : Type 0} (reader : Prog A) (ts : List Token) → IsLocal reader ts
 local (done answer) ts = ([], refl, λ us s. refl)
 local (fail why) ts = ([], refl, λ us s. refl)
 local (look next) ts = local_look next ts (local (next (head ts).kind (head ts).payload (head ts).line) ts)
-local (skip reader) [] =
-    ([], refl, λ us s. elim us as (λ us. Same [] us → run (skip reader) us ≡ Err (misplaced, us))
-    [ [] ↦ λ s. refl | u ∷ us ↦ λ s. absurd s ] s)
+local (skip reader) [] = (
+  [],
+  refl,
+  λ us s. elim us as (λ us. Same [] us → run (skip reader) us ≡ Err (misplaced, us))
+      [ [] ↦ λ s. refl | u ∷ us ↦ λ s. absurd s ] s,
+)
 local (skip reader) (t ∷ ts) = let h = local reader ts in (t ∷ h.0, ap (λ us. t ∷ us) h.1, h.2)
 
 -- the same fault comes in each text with the same tokens up to it

@@ -29,7 +29,7 @@ module _ {S : Type 0} (R : S → List Word → Type 0) where
 
   module _ (next : S → Kind → Payload → ℕ → Next S)
       (begins : (s : S) (us : List Word) → R s us → (kind : Kind) (payload : Payload) (line : ℕ)
-          → Begins us (a_token kind payload line) (next s kind payload line)) where
+      → Begins us (a_token kind payload line) (next s kind payload line)) where
     reads_turn_by : (again : S → Prog S) (found : S) (us : List Word) (t : Token) (n : Next S) → R found us → Begins us t n
         → ((s : S) (vs : List Word) → R s (us ++ vs) → Reads (λ x ws. R x ((us ++ vs) ++ ws)) Any (again s))
         → ReadsAt t (λ x ws. R x (us ++ ws)) Any (turn_by again found n)
@@ -58,5 +58,5 @@ module _ {S : Type 0} (R : S → List Word → Type 0) where
         reads_look (λ x ws. R x (us ++ ws)) Any
         (λ kind payload line. turn_by (turns next most) found (next found kind payload line))
         (λ kind payload line. reads_turn_by (turns next most) found us (a_token kind payload line)
-            (next found kind payload line) r (begins found us r kind payload line)
-            (λ s vs is. reads_turns most s (us ++ vs) is))
+        (next found kind payload line) r (begins found us r kind payload line)
+        (λ s vs is. reads_turns most s (us ++ vs) is))

@@ -5,9 +5,7 @@ use crate::depth::Depth;
 use crate::reader::Reader;
 use crate::statements::statement;
 use crate::stop::Stop;
-use crate::tree::{
-    Constant, Element, Elements, MoreElement, Others, OthersHead, Separated,
-};
+use crate::tree::{Constant, Element, Elements, MoreElement, Others, OthersHead, Separated};
 use pas_tokens::Kind;
 use sqlite_items::{Boxed, Items};
 use std::alloc::Global;
@@ -31,7 +29,11 @@ enum Arm {
 
 // Reads `elem {";" elem} [";" ["others" ":" stmt [";"]]]`.
 #[cycle(statement)]
-pub(crate) fn case_arms(alloc: Global, reader: &mut Reader<'_>, depth: Depth) -> Result<Arms, Stop> {
+pub(crate) fn case_arms(
+    alloc: Global,
+    reader: &mut Reader<'_>,
+    depth: Depth,
+) -> Result<Arms, Stop> {
     let constants = constants(alloc, reader)?;
     let first = element(alloc, reader, depth, constants)?;
     let mut more = Items::new(alloc);
@@ -53,7 +55,12 @@ pub(crate) fn case_arms(alloc: Global, reader: &mut Reader<'_>, depth: Depth) ->
 
 // Reads what stands behind a semicolon in this line.
 #[cycle(statement)]
-fn next_arm(alloc: Global, reader: &mut Reader<'_>, depth: Depth, semicolon: u32) -> Result<Arm, Stop> {
+fn next_arm(
+    alloc: Global,
+    reader: &mut Reader<'_>,
+    depth: Depth,
+    semicolon: u32,
+) -> Result<Arm, Stop> {
     match reader.kind() {
         Kind::End => Ok(Arm::Others(Others::Semicolon(semicolon))),
         _ => {

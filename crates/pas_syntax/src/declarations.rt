@@ -3,11 +3,11 @@
 use crate::constants::constant;
 use crate::depth::Depth;
 use crate::reader::Reader;
+use crate::routines::routines;
 use crate::stop::Stop;
 use crate::tree::{
     Behind, ConstantRow, Declarations, Labels, Numeral, Rows, Separated, TypeRow, VariableRow,
 };
-use crate::routines::routines;
 use crate::type_forms::{idents, type_form};
 use pas_tokens::Kind;
 use sqlite_items::Items;

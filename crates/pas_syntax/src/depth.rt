@@ -31,8 +31,7 @@ impl Depth {
 
     // Within the operand behind an operator, where so many operators stand on the longest way down through the operand
     // before it.
-    pub(crate) fn in_operand(self, left: usize) -> Result<Depth, Stop>
-    {
+    pub(crate) fn in_operand(self, left: usize) -> Result<Depth, Stop> {
         if self.operators + left >= NESTING_LIMIT {
             return Err(Stop::LeftOut(NESTING_PAST_LIMIT));
         }

@@ -15,7 +15,11 @@ use wb_base::faults::{POINTERS, REAL_NUMBERS, SETS};
 
 // Reads `sum [("="|"<>"|"<"|"<="|">"|">=") sum]`.
 #[cycle(expression)]
-pub(crate) fn expr(alloc: Global, reader: &mut Reader<'_>, depth: Depth) -> Result<Deep<Expr>, Stop> {
+pub(crate) fn expr(
+    alloc: Global,
+    reader: &mut Reader<'_>,
+    depth: Depth,
+) -> Result<Deep<Expr>, Stop> {
     let left = sum(alloc, reader, depth)?;
     match relation_of(reader.kind()) {
         Some(relation) => {
@@ -203,7 +207,11 @@ fn shallow(tree: Factor) -> Deep<Factor> {
 
 // Reads `var | id "(" expr {"," expr} ")"`.
 #[cycle(expression)]
-fn named_factor(alloc: Global, reader: &mut Reader<'_>, depth: Depth) -> Result<Deep<Factor>, Stop> {
+fn named_factor(
+    alloc: Global,
+    reader: &mut Reader<'_>,
+    depth: Depth,
+) -> Result<Deep<Factor>, Stop> {
     let name = reader.ident()?;
     match reader.kind() {
         Kind::LeftParenthesis => {

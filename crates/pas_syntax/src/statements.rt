@@ -7,8 +7,8 @@ use crate::operators::Way;
 use crate::reader::Reader;
 use crate::stop::Stop;
 use crate::tree::{
-    Argument, Arguments, Assignment, Behind, Compound, Expr, ForHead, Guard, Ident, LabelHere, Lined,
-    MoreStatement, Plain, ProcedureCall, Separated, Statement, Statements,
+    Argument, Arguments, Assignment, Behind, Compound, Expr, ForHead, Guard, Ident, LabelHere,
+    Lined, MoreStatement, Plain, ProcedureCall, Separated, Statement, Statements,
 };
 use pas_tokens::Kind;
 use sqlite_items::{Boxed, Items};
@@ -46,10 +46,7 @@ pub(crate) fn statement(
             let numeral = reader.numeral()?;
             let colon = reader.take(Kind::Colon)?;
             let plain = plain(alloc, reader, depth)?;
-            Ok(Statement::Labelled(
-                LabelHere { numeral, colon },
-                Boxed::new(alloc, plain)?,
-            ))
+            Ok(Statement::Labelled(LabelHere { numeral, colon }, Boxed::new(alloc, plain)?))
         }
         _ => Ok(Statement::Unlabelled(plain(alloc, reader, depth)?)),
     }
@@ -116,12 +113,7 @@ fn case_statement(alloc: Global, reader: &mut Reader<'_>, depth: Depth) -> Resul
     let arms = case_arms(alloc, reader, inner)?;
     let end = reader.take(Kind::End)?;
     let elements = Boxed::new(alloc, arms.elements)?;
-    Ok(Plain::Case(
-        head,
-        elements,
-        Boxed::new(alloc, arms.others)?,
-        end,
-    ))
+    Ok(Plain::Case(head, elements, Boxed::new(alloc, arms.others)?, end))
 }
 
 // Reads `"while" expr "do" stmt`.
@@ -141,11 +133,7 @@ fn repeat_loop(alloc: Global, reader: &mut Reader<'_>, depth: Depth) -> Result<P
     let list = Boxed::new(alloc, statements(alloc, reader, inner)?)?;
     let until = reader.take(Kind::Until)?;
     let item = expr(alloc, reader, inner)?.tree;
-    Ok(Plain::Repeat(
-        line,
-        list,
-        Boxed::new(alloc, Behind { line: until, item })?,
-    ))
+    Ok(Plain::Repeat(line, list, Boxed::new(alloc, Behind { line: until, item })?))
 }
 
 // Reads `"for" id ":=" expr ("to"|"downto") expr "do" stmt`.

@@ -43,10 +43,7 @@ fn structured(
             let inner = depth.in_form()?;
             let head = array_head(alloc, reader, inner, packed)?;
             let element = type_form(alloc, reader, inner)?;
-            Ok(TypeForm::Array(
-                Boxed::new(alloc, head)?,
-                Boxed::new(alloc, element)?,
-            ))
+            Ok(TypeForm::Array(Boxed::new(alloc, head)?, Boxed::new(alloc, element)?))
         }
         Kind::Record => {
             let inner = depth.in_form()?;
