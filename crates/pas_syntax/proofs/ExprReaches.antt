@@ -1,5 +1,6 @@
 -- Each reader of an expression takes the words of each tree, to the first with a fault.
-use Rattle.std.proofs.Common.{◌≡◌, refl, sym, ap, subst, ◌∙◌, ℕ, zero, suc, ◌+◌, ◌-◌, ◌≤◌, ◌<◌, arith, Bool, true, false}
+use Rattle.std.proofs.Common.{◌≡◌, refl, sym, ap, subst, ◌∙◌, ℕ, zero, suc, ◌+◌, ◌-◌, ◌≤◌, ◌<◌, arith, Bool, true}
+use Rattle.std.proofs.Common.{false}
 use Rattle.std.proofs.Common.{List, [], ◌∷◌, ◌++◌, length, append_assoc, Result, Ok, Err, Option, Some, None}
 use Rattle.std.specs.Prelude.{nat_lt}
 use Rattle.std.proofs.lemmas.List.{append-nil, length-append}
@@ -19,17 +20,20 @@ use Rattle.pas_syntax.specs.declared.operators.Adding.{Adding}
 use Rattle.pas_syntax.specs.declared.operators.Adding.TheVariants as adding
 use Rattle.pas_syntax.specs.Tree as tree
 use Rattle.pas_syntax.specs.Tree.{Ident, Lined, Expr, Sum, Term, Factor, Variable, Exprs}
-use Rattle.pas_syntax.specs.Words.{Word, at, operator, shows, name_at, number_at, text_at, multiplying_kind, adding_kind}
+use Rattle.pas_syntax.specs.Words.{Word, at, operator, shows, name_at, number_at, text_at, multiplying_kind}
+use Rattle.pas_syntax.specs.Words.{adding_kind}
 use Rattle.pas_syntax.specs.Words.{relation_kind, sign_kind, sum_depth, term_depth, expr_words, sum_words, term_words}
 use Rattle.pas_syntax.specs.Words.{factor_words, variable_words, exprs_words}
 use Rattle.pas_syntax.specs.Parse.{tokens_in}
 use Rattle.pas_syntax.specs.inner.Prog.{Prog, done, look, skip, bind, Out, run, head, Next, more, ends, turns}
 use Rattle.pas_syntax.specs.inner.Readers.{ident, right_parenthesis_at, right_bracket_at, factor_behind, behind_factor}
-use Rattle.pas_syntax.specs.inner.Readers.{term_by, term_behind, behind_term, signed_by, first_term_at, sum_by, related_by}
+use Rattle.pas_syntax.specs.inner.Readers.{term_by, term_behind, behind_term, signed_by, first_term_at, sum_by}
+use Rattle.pas_syntax.specs.inner.Readers.{related_by}
 use Rattle.pas_syntax.specs.inner.Readers.{behind_sum, expr_by, behind_expr, exprs_by, indexes_by, behind_variable}
 use Rattle.pas_syntax.specs.inner.Readers.{variable_by, behind_name, factor_at, factor, expr, exprs, variable}
 use Rattle.pas_syntax.proofs.Judged.{Reaches, reaches_bind, reaches_last, reaches_skip, reaches_shown}
-use Rattle.pas_syntax.proofs.ReachLemmas.{reaches_turn, reaches_more, reaches_no, reaches_end, reaches_unless, reaches_look}
+use Rattle.pas_syntax.proofs.ReachLemmas.{reaches_turn, reaches_more, reaches_no, reaches_end, reaches_unless}
+use Rattle.pas_syntax.proofs.ReachLemmas.{reaches_look}
 use Rattle.pas_syntax.proofs.WordLemmas.{sound_says, sound_operator, deep_form, deep_operator, fits_of}
 
 -- what may stand behind a factor, a term and a sum

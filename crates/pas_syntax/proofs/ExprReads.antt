@@ -19,19 +19,26 @@ use Rattle.pas_syntax.specs.declared.operators.Relation.{Relation}
 use Rattle.pas_syntax.specs.declared.operators.Relation.TheVariants as relates
 use Rattle.pas_syntax.specs.Tree as tree
 use Rattle.pas_syntax.specs.Tree.{Ident, Numeral, Quoted, Lined, Expr, Sum, Term, Factor, Variable, Exprs}
-use Rattle.pas_syntax.specs.Words.{Word, says, at, operator, shows, name_at, number_at, text_at, multiplying_kind, adding_kind}
-use Rattle.pas_syntax.specs.Words.{relation_kind, sign_kind, depth_of, sum_depth, term_depth, expr_words, sum_words, term_words}
+use Rattle.pas_syntax.specs.Words.{Word, says, at, operator, shows, name_at, number_at, text_at, multiplying_kind}
+use Rattle.pas_syntax.specs.Words.{adding_kind}
+use Rattle.pas_syntax.specs.Words.{relation_kind, sign_kind, depth_of, sum_depth, term_depth, expr_words, sum_words}
+use Rattle.pas_syntax.specs.Words.{term_words}
 use Rattle.pas_syntax.specs.Words.{factor_words, variable_words, exprs_words}
 use Rattle.pas_syntax.specs.Parse.{fault_of, left_out, IsSound}
-use Rattle.pas_syntax.specs.inner.Prog.{Prog, done, fail, look, skip, bind, head, misplaced, shown, spent, Next, more, ends, no, turns}
+use Rattle.pas_syntax.specs.inner.Prog.{Prog, done, fail, look, skip, bind, head, misplaced, shown, spent, Next, more}
+use Rattle.pas_syntax.specs.inner.Prog.{ends, no, turns}
 use Rattle.pas_syntax.specs.inner.Readers.{ident_at, ident, right_parenthesis_at, right_bracket_at, factor_behind}
-use Rattle.pas_syntax.specs.inner.Readers.{behind_factor, term_by, term_behind, behind_term, signed_by, first_term_at, sum_by}
+use Rattle.pas_syntax.specs.inner.Readers.{behind_factor, term_by, term_behind, behind_term, signed_by, first_term_at}
+use Rattle.pas_syntax.specs.inner.Readers.{sum_by}
 use Rattle.pas_syntax.specs.inner.Readers.{related_by, behind_sum, expr_by, behind_expr, exprs_by, indexes_by}
-use Rattle.pas_syntax.specs.inner.Readers.{behind_variable, variable_by, call_by, behind_name, parenthesized_by, negated_by}
+use Rattle.pas_syntax.specs.inner.Readers.{behind_variable, variable_by, call_by, behind_name, parenthesized_by}
+use Rattle.pas_syntax.specs.inner.Readers.{negated_by}
 use Rattle.pas_syntax.specs.inner.Readers.{factor_at, factor, expr, exprs, variable}
-use Rattle.pas_syntax.proofs.Good.{a_token, ReadsAt, Reads, reads_look, reads_done, reads_wrong, reads_shown, reads_skip, reads_bind}
+use Rattle.pas_syntax.proofs.Good.{a_token, ReadsAt, Reads, reads_look, reads_done, reads_wrong, reads_shown}
+use Rattle.pas_syntax.proofs.Good.{reads_skip, reads_bind}
 use Rattle.pas_syntax.proofs.TurnLemmas.{Any, Begins, reads_turns}
-use Rattle.pas_syntax.proofs.WordLemmas.{sound_says, sound_operator, deep_form, deep_operator, IsDeep, reads_unless, begins_unless}
+use Rattle.pas_syntax.proofs.WordLemmas.{sound_says, sound_operator, deep_form, deep_operator, IsDeep, reads_unless}
+use Rattle.pas_syntax.proofs.WordLemmas.{begins_unless}
 use Rattle.pas_syntax.proofs.WordLemmas.{fits_of}
 
 -- what is spelled so inside n open forms and in the operands of `a` operators

@@ -1,5 +1,6 @@
 -- Each reader of a list of expressions, a variable or a factor takes the words of each tree, to the first with a fault.
-use Rattle.std.proofs.Common.{◌≡◌, refl, sym, ap, subst, ◌∙◌, ℕ, zero, suc, ◌+◌, ◌-◌, ◌≤◌, ◌<◌, arith, Bool, true, false}
+use Rattle.std.proofs.Common.{◌≡◌, refl, sym, ap, subst, ◌∙◌, ℕ, zero, suc, ◌+◌, ◌-◌, ◌≤◌, ◌<◌, arith, Bool, true}
+use Rattle.std.proofs.Common.{false}
 use Rattle.std.proofs.Common.{List, [], ◌∷◌, ◌++◌, length, append_assoc, Result, Ok, Err, Option, Some, None}
 use Rattle.std.specs.Prelude.{nat_lt}
 use Rattle.std.proofs.lemmas.List.{append-nil, length-append}
@@ -15,8 +16,10 @@ use Rattle.pas_syntax.specs.Words.{Word, at, operator, shows, name_at, number_at
 use Rattle.pas_syntax.specs.Words.{variable_words, exprs_words}
 use Rattle.pas_syntax.specs.Parse.{tokens_in}
 use Rattle.pas_syntax.specs.inner.Prog.{Prog, done, look, skip, bind, Out, run, head, Next, more, ends, turns}
-use Rattle.pas_syntax.specs.inner.Readers.{ident, right_parenthesis_at, right_bracket_at, expr_by, behind_expr, exprs_by}
-use Rattle.pas_syntax.specs.inner.Readers.{indexes_by, behind_variable, variable_by, call_by, behind_name, factor_at, factor}
+use Rattle.pas_syntax.specs.inner.Readers.{ident, right_parenthesis_at, right_bracket_at, expr_by, behind_expr}
+use Rattle.pas_syntax.specs.inner.Readers.{exprs_by}
+use Rattle.pas_syntax.specs.inner.Readers.{indexes_by, behind_variable, variable_by, call_by, behind_name, factor_at}
+use Rattle.pas_syntax.specs.inner.Readers.{factor}
 use Rattle.pas_syntax.specs.inner.Readers.{expr, exprs, variable}
 use Rattle.pas_syntax.proofs.Judged.{Reaches, reaches_bind, reaches_last, reaches_skip, reaches_shown}
 use Rattle.pas_syntax.proofs.ReachLemmas.{reaches_turn, reaches_more, reaches_end, reaches_unless, reaches_look}

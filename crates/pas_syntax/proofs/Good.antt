@@ -7,7 +7,8 @@ use Rattle.pas_tokens.specs.Cutting.{Payload}
 use Rattle.pas_tokens.specs.Tokens.{Token}
 use Rattle.pas_syntax.specs.Words.{Word}
 use Rattle.pas_syntax.specs.Parse.{fault_of, left_out, IsSound, tokens_in}
-use Rattle.pas_syntax.specs.inner.Prog.{Why, misplaced, shown, spent, Prog, done, fail, look, skip, bind, Out, run, head, and_then}
+use Rattle.pas_syntax.specs.inner.Prog.{Why, misplaced, shown, spent, Prog, done, fail, look, skip, bind, Out, run}
+use Rattle.pas_syntax.specs.inner.Prog.{head, and_then}
 use Rattle.pas_syntax.proofs.ProgLemmas.{run_bind}
 
 -- the words are sound, one by one

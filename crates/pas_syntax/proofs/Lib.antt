@@ -7,3 +7,5 @@ pub mod ReachLemmas
 pub mod ExprReads
 pub mod ExprReaches
 pub mod FactorReaches
+pub mod ItemLemmas
+pub mod ConstantLemmas

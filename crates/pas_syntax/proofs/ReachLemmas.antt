@@ -7,7 +7,8 @@ use Rattle.pas_tokens.specs.Cutting.{Payload}
 use Rattle.pas_tokens.specs.Tokens.{Token}
 use Rattle.pas_syntax.specs.Words.{Word}
 use Rattle.pas_syntax.specs.Parse.{fault_of, left_out, IsSound, tokens_in}
-use Rattle.pas_syntax.specs.inner.Prog.{Prog, shown, done, fail, look, skip, bind, Out, run, head, Next, more, ends, no, turn_by, turns}
+use Rattle.pas_syntax.specs.inner.Prog.{Prog, shown, done, fail, look, skip, bind, Out, run, head, Next, more, ends, no}
+use Rattle.pas_syntax.specs.inner.Prog.{turn_by, turns}
 use Rattle.pas_syntax.specs.inner.Readers.{unless, turn_unless}
 use Rattle.pas_syntax.proofs.Judged.{judged, Reaches, reaches_bind, reaches_skip, reaches_shown}
 

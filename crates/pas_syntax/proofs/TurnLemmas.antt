@@ -8,7 +8,8 @@ use Rattle.pas_tokens.specs.Cutting.{Payload}
 use Rattle.pas_tokens.specs.Tokens.{Token}
 use Rattle.pas_syntax.specs.Words.{Word}
 use Rattle.pas_syntax.specs.Parse.{fault_of, left_out, IsSound, tokens_in}
-use Rattle.pas_syntax.specs.inner.Prog.{Why, misplaced, shown, spent, Prog, done, fail, look, skip, bind, Out, run, head, Next, more, ends, no, turn_by, turns}
+use Rattle.pas_syntax.specs.inner.Prog.{Why, misplaced, shown, spent, Prog, done, fail, look, skip, bind, Out, run}
+use Rattle.pas_syntax.specs.inner.Prog.{head, Next, more, ends, no, turn_by, turns}
 use Rattle.pas_syntax.proofs.Good.{a_token, ReadsAt, Reads, reads_look, reads_done, reads_shown, reads_skip, reads_bind}
 
 -- whatever stands behind

@@ -10,7 +10,8 @@ use Rattle.pas_syntax.specs.declared.tree.TypeForm.TheFolds.{fold-TypeForm}
 use Rattle.pas_syntax.specs.declared.tree.Argument.{Argument as CodeArgument}
 use Rattle.pas_syntax.specs.declared.tree.Arguments.{Arguments as CodeArguments}
 use Rattle.pas_syntax.specs.declared.tree.Compound as code_compound
-use Rattle.pas_syntax.specs.declared.tree.Others.TheOpen.{Others-F, Plain-F, Statement-F, Compound-F, Element-F, Elements-F}
+use Rattle.pas_syntax.specs.declared.tree.Others.TheOpen.{Others-F, Plain-F, Statement-F, Compound-F, Element-F}
+use Rattle.pas_syntax.specs.declared.tree.Others.TheOpen.{Elements-F}
 use Rattle.pas_syntax.specs.declared.tree.Others.TheOpen.{MoreElement-F, MoreStatement-F, Statements-F}
 use Rattle.pas_syntax.specs.declared.tree.Others.TheFolds.{fold-Compound}
 use Rattle.pas_syntax.specs.declared.tree.Labels.{Labels as CodeLabels}
@@ -29,9 +30,12 @@ use Rattle.pas_syntax.specs.declared.tree.Routine.{Routine as CodeRoutine}
 use Rattle.pas_syntax.specs.declared.tree.ProgramParameters.{ProgramParameters as CodeProgramParameters}
 use Rattle.pas_syntax.specs.declared.tree.ProgramTree.{ProgramTree}
 use Rattle.pas_syntax.specs.Tree as tree
-use Rattle.pas_syntax.specs.Tree.{Ident, Behind, Separated, Idents, Constant, TypeName, TypeForm, Fields, Argument, Arguments}
-use Rattle.pas_syntax.specs.Tree.{Plain, Statement, Statements, Elements, Others, Labels, ConstantRow, TypeRow, VariableRow}
-use Rattle.pas_syntax.specs.Tree.{Rows, Parameter, Parameters, Heading, Compound, Body, Routine, ProgramParameters, Program}
+use Rattle.pas_syntax.specs.Tree.{Ident, Behind, Separated, Idents, Constant, TypeName, TypeForm, Fields, Argument}
+use Rattle.pas_syntax.specs.Tree.{Arguments}
+use Rattle.pas_syntax.specs.Tree.{Plain, Statement, Statements, Elements, Others, Labels, ConstantRow, TypeRow}
+use Rattle.pas_syntax.specs.Tree.{VariableRow}
+use Rattle.pas_syntax.specs.Tree.{Rows, Parameter, Parameters, Heading, Compound, Body, Routine, ProgramParameters}
+use Rattle.pas_syntax.specs.Tree.{Program}
 use Rattle.pas_syntax.specs.Views.{ident_in, numeral_in, in_turn, lined_in, behind_in, separated_in, if_there}
 use Rattle.pas_syntax.specs.Views.{constant_in, simple_in, expr_in, variable_in}
 

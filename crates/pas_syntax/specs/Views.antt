@@ -24,7 +24,8 @@ use Rattle.pas_syntax.specs.declared.tree.Factor as code_factor
 use Rattle.pas_syntax.specs.declared.tree.Variable as code_variable
 use Rattle.pas_syntax.specs.declared.tree.Selector as code_selector
 use Rattle.pas_syntax.specs.declared.tree.Exprs as code_exprs
-use Rattle.pas_syntax.specs.declared.tree.Expr.TheOpen.{Expr-F, Sum-F, Term-F, Factor-F, Selector-F, Exprs-F, FunctionCall-F}
+use Rattle.pas_syntax.specs.declared.tree.Expr.TheOpen.{Expr-F, Sum-F, Term-F, Factor-F, Selector-F, Exprs-F}
+use Rattle.pas_syntax.specs.declared.tree.Expr.TheOpen.{FunctionCall-F}
 use Rattle.pas_syntax.specs.declared.tree.Expr.TheOpen.{MoreExpr-F, Variable-F}
 use Rattle.pas_syntax.specs.declared.tree.Expr.TheFolds.{fold-Expr, fold-Sum, fold-Term, fold-Factor, fold-Variable}
 use Rattle.pas_syntax.specs.declared.tree.Expr.TheFolds.{fold-Selector, fold-Exprs}

@@ -1,5 +1,6 @@
 //! How constants are read.
 
+use crate::operator_kinds::sign_of;
 use crate::operators::Sign;
 use crate::reader::Reader;
 use crate::stop::Stop;
@@ -31,15 +32,6 @@ fn unsigned(reader: &mut Reader<'_>, sign: Option<Lined<Sign>>) -> Result<Consta
 fn sign(reader: &mut Reader<'_>) -> Option<Lined<Sign>> {
     let sign = sign_of(reader.kind())?;
     Some(reader.lined(sign))
-}
-
-// The sign that a token is.
-pub(crate) fn sign_of(kind: Kind) -> Option<Sign> {
-    match kind {
-        Kind::Plus => Some(Sign::Plus),
-        Kind::Minus => Some(Sign::Minus),
-        _ => None,
-    }
 }
 
 // Reads `const {"," const}`.

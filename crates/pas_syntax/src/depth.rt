@@ -1,4 +1,5 @@
 //! How deep a place lies.
+ghost use Rattle.std.specs.Prelude.{◌≡◌, ◌≤◌, ◌+◌, nat_lt, if◌then◌else◌, Ok, Err};
 
 use crate::limits::NESTING_LIMIT;
 use crate::stop::Stop;
@@ -19,7 +20,11 @@ impl Depth {
     };
 
     // Within one form more.
-    pub(crate) fn in_form(self) -> Result<Depth, Stop> {
+    pub(crate) fn in_form(self) -> Result<Depth, Stop>
+        requires { self.forms ≤ NESTING_LIMIT }
+        ensures { result ≡ (if nat_lt NESTING_LIMIT (self.forms + 1) then Err (Stop.LeftOut NESTING_PAST_LIMIT)
+            else Ok (record { forms = self.forms + 1; operators = self.operators })) }
+    {
         if self.forms >= NESTING_LIMIT {
             return Err(Stop::LeftOut(NESTING_PAST_LIMIT));
         }
@@ -31,7 +36,11 @@ impl Depth {
 
     // Within the operand behind an operator, where so many operators stand on the longest way down through the operand
     // before it.
-    pub(crate) fn in_operand(self, left: usize) -> Result<Depth, Stop> {
+    pub(crate) fn in_operand(self, left: usize) -> Result<Depth, Stop>
+        requires { self.operators + left ≤ NESTING_LIMIT }
+        ensures { result ≡ (if nat_lt NESTING_LIMIT (self.operators + 1 + left) then Err (Stop.LeftOut NESTING_PAST_LIMIT)
+            else Ok (record { forms = self.forms; operators = self.operators + 1 })) }
+    {
         if self.operators + left >= NESTING_LIMIT {
             return Err(Stop::LeftOut(NESTING_PAST_LIMIT));
         }

@@ -1,7 +1,7 @@
 //! How expressions are read.
 
-use crate::constants::sign_of;
 use crate::depth::{Deep, Depth};
+use crate::operator_kinds::{adding_of, multiplying_of, relation_of, sign_of};
 use crate::operators::{Adding, Multiplying, Relation};
 use crate::reader::Reader;
 use crate::stop::Stop;
@@ -336,39 +336,5 @@ fn exprs(alloc: Global, reader: &mut Reader<'_>, depth: Depth) -> Result<Deep<Ex
                 });
             }
         }
-    }
-}
-
-// The operator between sums that a token is.
-fn relation_of(kind: Kind) -> Option<Relation> {
-    match kind {
-        Kind::Equal => Some(Relation::Equal),
-        Kind::NotEqual => Some(Relation::NotEqual),
-        Kind::Less => Some(Relation::Less),
-        Kind::LessOrEqual => Some(Relation::LessOrEqual),
-        Kind::Greater => Some(Relation::Greater),
-        Kind::GreaterOrEqual => Some(Relation::GreaterOrEqual),
-        _ => None,
-    }
-}
-
-// The operator between terms that a token is.
-fn adding_of(kind: Kind) -> Option<Adding> {
-    match kind {
-        Kind::Plus => Some(Adding::Plus),
-        Kind::Minus => Some(Adding::Minus),
-        Kind::Or => Some(Adding::Or),
-        _ => None,
-    }
-}
-
-// The operator between factors that a token is.
-fn multiplying_of(kind: Kind) -> Option<Multiplying> {
-    match kind {
-        Kind::Star => Some(Multiplying::Times),
-        Kind::Div => Some(Multiplying::Div),
-        Kind::Mod => Some(Multiplying::Mod),
-        Kind::And => Some(Multiplying::And),
-        _ => None,
     }
 }

@@ -7,6 +7,7 @@ mod declarations;
 mod depth;
 mod expressions;
 mod limits;
+mod operator_kinds;
 mod operators;
 mod program;
 mod programs;

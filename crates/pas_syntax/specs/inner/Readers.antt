@@ -16,7 +16,8 @@ use Rattle.pas_syntax.specs.declared.operators.Relation.TheVariants as relates
 use Rattle.pas_syntax.specs.Tree as tree
 use Rattle.pas_syntax.specs.Tree.{Ident, Expr, Sum, Term, Factor, Variable, Exprs}
 use Rattle.pas_syntax.specs.Words.{depth_of, sum_depth, term_depth}
-use Rattle.pas_syntax.specs.inner.Prog.{Prog, done, fail, look, skip, bind, misplaced, shown, spent, Next, more, ends, no, turns}
+use Rattle.pas_syntax.specs.inner.Prog.{Prog, done, fail, look, skip, bind, misplaced, shown, spent, Next, more, ends}
+use Rattle.pas_syntax.specs.inner.Prog.{no, turns}
 
 -- a reader, unless nesting passes its limit
 abbrev pub unless : {A : Type 0} → Bool → Prog A → Prog A
