@@ -90,7 +90,8 @@ module _ (n : ℕ) (fits : n ≤ NESTING_LIMIT) where
       (skip (bind constant (λ high. done (tree.range low line high))))
   reads_dots low us line is =
       let w = at n k.Dots line in
-      reads_skip (λ s vs. IsSimple n s (us ++ vs)) Any w (bind constant (λ high. done (tree.range low line high))) (λ e. cc)
+      reads_skip (λ s vs. IsSimple n s (us ++ vs)) Any w (bind constant (λ high. done (tree.range low line high))) (λ
+      e. cc)
       (sound_says n k.Dots nothing line fits)
       (reads_bind (IsConstant n) Any (λ s vs. IsSimple n s (us ++ w ∷ vs)) Any (λ high. done (tree.range low line high))
       constant reads_constant
@@ -98,7 +99,8 @@ module _ (n : ℕ) (fits : n ≤ NESTING_LIMIT) where
       (rw (append-nil vs, is, also) refl) tt)
       (λ high vs also. (tree.range low line high, [], rw (append-nil vs, is, also) refl)))
 
-  reads_range_at : (low : Constant) (us : List Word) → IsConstant n low us → (kind : Kind) (payload : Payload) (line : ℕ)
+  reads_range_at : (low : Constant) (us : List Word) → IsConstant n low us
+      → (kind : Kind) (payload : Payload) (line : ℕ)
       → ReadsAt (a_token kind payload line) (λ s vs. IsSimple n s (us ++ vs)) Any (range_at low kind payload line)
   reads_range_at low us is k.Dots nothing line = reads_dots low us line is
   reads_range_at low us is kind payload line =
@@ -116,7 +118,8 @@ module _ (n : ℕ) (fits : n ≤ NESTING_LIMIT) where
   reads_range : Reads (IsSimple n) Any (bind constant (λ low. look (range_at low)))
   reads_range =
       reads_bind (IsConstant n) Any (IsSimple n) Any (λ low. look (range_at low)) constant reads_constant
-      (λ low us t is _ ts _. reads_look (λ s vs. IsSimple n s (us ++ vs)) Any (range_at low) (reads_range_at low us is) ts)
+      (λ low us t is _ ts _. reads_look (λ s vs. IsSimple n s (us
+      ++ vs)) Any (range_at low) (reads_range_at low us is) ts)
       (λ low us is. (tree.range low 0 zero_constant, at n k.Dots 0 ∷ number_at n zero_numeral ∷ [], rw is refl))
 
   reads_simple_at : (kind : Kind) (payload : Payload) (line : ℕ)
@@ -154,7 +157,8 @@ module _ (n : ℕ) (fits : n ≤ NESTING_LIMIT) where
   reaches_constant (tree.number (Some lead) numeral) rest =
       let c = tree.number (Some lead) numeral in
       let w = at n (sign_kind lead.item) lead.line in
-      reaches_look constant_at (skip (look (unsigned_at (Some lead)))) (w ∷ number_at n numeral ∷ []) (Ok (c, rest)) rest
+      reaches_look constant_at (skip (look (unsigned_at (Some lead)))) (w ∷ number_at n numeral
+      ∷ []) (Ok (c, rest)) rest
       (sign_first lead.item lead.line)
       (reaches_skip (look (unsigned_at (Some lead))) w (number_at n numeral ∷ []) (Ok (c, rest)) rest
       (sound_says n (sign_kind lead.item) nothing lead.line fits)

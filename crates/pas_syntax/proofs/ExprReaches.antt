@@ -179,7 +179,13 @@ split_variable n a (tree.buffer_of v line) = ap (λ ws. ws ++ at n k.Caret line 
 
 starts_factor : (n a : ℕ) (f : Factor) → Starts (factor_words n a f)
 starts_factor n a (tree.literal numeral) = record { word = number_at n numeral; others = []; same = refl; no_sign = tt }
-starts_factor n a (tree.literal_text quoted) = record { word = text_at n quoted; others = []; same = refl; no_sign = tt }
+starts_factor n a (tree.literal_text quoted) = record {
+  word = text_at n quoted;
+  others = [];
+  same = refl;
+  no_sign =
+      tt;
+}
 starts_factor n a (tree.parenthesized opened e closed) =
     record {
       word = at (n + 1) k.LeftParenthesis opened;
@@ -202,7 +208,13 @@ starts_factor n a (tree.function_call name opened arguments closed) =
     }
 starts_factor n a (tree.set_value line) =
     record { word = shows n k.LeftBracket line SETS; others = []; same = refl; no_sign = tt }
-starts_factor n a (tree.nil line) = record { word = shows n k.Nil line POINTERS; others = []; same = refl; no_sign = tt }
+starts_factor n a (tree.nil line) = record {
+  word = shows n k.Nil line POINTERS;
+  others = [];
+  same = refl;
+  no_sign =
+      tt;
+}
 
 starts_term : (n a : ℕ) (t : Term) → Starts (term_words n a t)
 starts_term n a (tree.first_factor f) = starts_factor n a f
@@ -232,7 +244,8 @@ module _ (factor : ℕ → ℕ → Prog Factor) (most : ℕ)
     (h : (n a : ℕ) (f : Factor) (rest : List Token) → n ≤ NESTING_LIMIT → length (factor_words n a f) < most
     → EndsFactor (head rest).kind → Reaches (factor n a) (factor_words n a f) (Ok (f, rest)) rest) where
   next_factor : (n a : ℕ) (left : Term) (op : Multiplying) (line : ℕ)
-      → behind_factor factor most n a left (multiplying_kind op) nothing line ≡ factor_behind factor most n a left op line
+      → behind_factor factor most n a left (multiplying_kind op) nothing line ≡ factor_behind factor most n a left op
+      line
   next_factor n a left multiplying.Times line = refl
   next_factor n a left multiplying.Div line = refl
   next_factor n a left multiplying.Mod line = refl
@@ -273,7 +286,8 @@ module _ (factor : ℕ → ℕ → Prog Factor) (most : ℕ)
       (nat_lt NESTING_LIMIT (a + 1 + term_depth left)) r rest (next_factor n a left op.item op.line)
       (deep_operator n (a + 1 + term_depth left) (multiplying_kind op.item) op.line fits)
       (sound_operator n (a + 1 + term_depth left) (multiplying_kind op.item) op.line fits)
-      (λ few. reaches_last (factor n (a + 1)) (λ right. done (tree.more_factors left op right)) ws f (tokens_in vs ++ rest)
+      (λ few. reaches_last (factor n (a + 1)) (λ right. done (tree.more_factors left op right)) ws f (tokens_in vs
+      ++ rest)
       (h n (a + 1) f (tokens_in vs ++ rest) fits short end))
       then))
   reaches_term_on n a fits (tree.quotient left line) left_turns vs r rest is less end then =
@@ -351,7 +365,10 @@ module _ (factor : ℕ → ℕ → Prog Factor) (most : ℕ)
       (reaches_look (first_term_at factor most n a) (signed_by factor most n a lead.item lead.line) (w ∷ us)
       (Ok (tree.signed_term lead t, behind)) behind (signed n a lead.item lead.line)
       (reaches_unless w us (nat_lt NESTING_LIMIT (a + 1))
-      (bind (term_by factor most n (a + 1)) (λ t. done (tree.signed_term lead t))) (Ok (tree.signed_term lead t, behind)) behind
+      (bind (term_by factor most n (a + 1)) (λ t. done (tree.signed_term lead t))) (Ok (
+        tree.signed_term lead t,
+        behind,
+      )) behind
       (deep_operator n (a + 1) (sign_kind lead.item) lead.line fits)
       (sound_operator n (a + 1) (sign_kind lead.item) lead.line fits)
       (λ few. reaches_last (term_by factor most n (a + 1)) (λ t. done (tree.signed_term lead t)) us t behind

@@ -113,7 +113,8 @@ module _ (n : ℕ) (fits : n ≤ NESTING_LIMIT) where
       → ReadsAt (a_token kind payload line) (IsIdent n) Any (ident_at kind payload line)
   reads_ident_at k.Name (spelling name) line =
       let found : Ident = record { name = name; line = line } in
-      reads_skip (IsIdent n) Any (name_at n found) (done found) (λ e. cc) (sound_says n k.Name (spelling name) line fits)
+      reads_skip (IsIdent n) Any (name_at n found) (done found) (λ e. cc) (sound_says n k.Name (spelling name) line
+      fits)
       (λ ts. reads_done (λ x ws. IsIdent n x (name_at n found ∷ ws)) Any (head ts) found refl tt ts refl)
   reads_ident_at kind payload line =
       reads_wrong (IsIdent n) Any (a_token kind payload line) zero_ident (name_at n zero_ident) [] refl
@@ -172,7 +173,8 @@ module _ (factor : ℕ → ℕ → Prog Factor) (most : ℕ)
     one_factor_more left us op line f vs is also = rw (is, also) refl
 
     factor_turn : (left : Term) (us : List Word) (op : Multiplying) (line : ℕ) → IsTerm n a left us
-        → Begins (IsTerm n a) us (a_token (multiplying_kind op) nothing line) (factor_behind factor most n a left op line)
+        → Begins (IsTerm n a) us (a_token (multiplying_kind op) nothing line) (factor_behind factor most n a left op
+        line)
     factor_turn left us op line is =
         let w = factor_operator left op line in
         begins_unless (IsTerm n a) us w.token (nat_lt NESTING_LIMIT (a + 1 + term_depth left))
@@ -209,8 +211,15 @@ module _ (factor : ℕ → ℕ → Prog Factor) (most : ℕ)
 
     slash_turn : (left : Term) (us : List Word) (line : ℕ) → IsTerm n a left us
         → Begins (IsTerm n a) us (a_token k.Slash nothing line) (no (shown REAL_NUMBERS))
-    slash_turn left us line is =
-        (tree.quotient left line, shows n k.Slash line REAL_NUMBERS, [], ap (λ ws. ws ++ shows n k.Slash line REAL_NUMBERS ∷ []) is, refl, refl)
+    slash_turn left us line is = (
+      tree.quotient left line,
+      shows n k.Slash line REAL_NUMBERS,
+      [],
+      ap (λ ws. ws
+          ++ shows n k.Slash line REAL_NUMBERS ∷ []) is,
+      refl,
+      refl,
+    )
 
     begins_term : (left : Term) (us : List Word) → IsTerm n a left us → (kind : Kind) (payload : Payload) (line : ℕ)
         → Begins (IsTerm n a) us (a_token kind payload line) (behind_factor factor most n a left kind payload line)
@@ -260,7 +269,8 @@ module _ (factor : ℕ → ℕ → Prog Factor) (most : ℕ)
           adding_goes_on op,
           sound_operator n (a + 1 + sum_depth left) (adding_kind op) line fits few,
           reads_bind (IsTerm n (a + 1)) Any (λ s vs. IsSum n a s (us ++ w ∷ vs)) Any
-              (λ t. done (tree.more_terms left (lined op line) t)) (term_by factor most n (a + 1)) (reads_term n (a + 1) fits)
+              (λ t. done (tree.more_terms left (lined op line) t)) (term_by factor most n (a + 1)) (reads_term n (a +
+              1) fits)
               (λ t vs u also _. reads_done (λ s ws. IsSum n a s (us ++ w ∷ (vs ++ ws))) Any u
               (tree.more_terms left (lined op line) t)
               (rw (append-nil vs) (one_term_more left us op line t vs is also)) tt)
@@ -278,8 +288,15 @@ module _ (factor : ℕ → ℕ → Prog Factor) (most : ℕ)
 
     in_turn : (left : Sum) (us : List Word) (line : ℕ) → IsSum n a left us
         → Begins (IsSum n a) us (a_token k.In nothing line) (no (shown SETS))
-    in_turn left us line is =
-        (tree.membership left line, shows n k.In line SETS, [], ap (λ ws. ws ++ shows n k.In line SETS ∷ []) is, refl, refl)
+    in_turn left us line is = (
+      tree.membership left line,
+      shows n k.In line SETS,
+      [],
+      ap (λ ws. ws ++ shows n k.In line SETS
+          ∷ []) is,
+      refl,
+      refl,
+    )
 
     begins_sum : (left : Sum) (us : List Word) → IsSum n a left us → (kind : Kind) (payload : Payload) (line : ℕ)
         → Begins (IsSum n a) us (a_token kind payload line) (behind_term factor most n a left kind payload line)
@@ -316,7 +333,8 @@ module _ (factor : ℕ → ℕ → Prog Factor) (most : ℕ)
     reads_unsigned =
         reads_bind (IsTerm n a) Any (IsSum n a) Any (λ t. done (tree.first_term t)) (term_by factor most n a)
         (reads_term n a fits)
-        (λ t us u is _. reads_done (λ s ws. IsSum n a s (us ++ ws)) Any u (tree.first_term t) (rw (append-nil us) is) tt)
+        (λ t us u is _. reads_done (λ s ws. IsSum n a s (us ++ ws)) Any u (tree.first_term t) (rw (append-nil us) is)
+        tt)
         (λ t us is. (tree.first_term t, [], rw (append-nil us) is))
 
     reads_first_term_at : (kind : Kind) (payload : Payload) (line : ℕ)
@@ -383,10 +401,12 @@ module _ (factor : ℕ → ℕ → Prog Factor) (most : ℕ)
 
     -- a list of expressions
     one_expr_more : (others : Exprs) (us : List Word) (line : ℕ) (e : Expr) (vs : List Word)
-        → IsExprs n a others us → IsExpr n a e vs → IsExprs n a (tree.more_exprs others line e) (us ++ at n k.Comma line ∷ vs)
+        → IsExprs n a others us → IsExpr n a e vs → IsExprs n a (tree.more_exprs others line e) (us
+        ++ at n k.Comma line ∷ vs)
     one_expr_more others us line e vs is also = rw (is, also) refl
 
-    begins_exprs : (others : Exprs) (us : List Word) → IsExprs n a others us → (kind : Kind) (payload : Payload) (line : ℕ)
+    begins_exprs : (others : Exprs) (us : List Word) → IsExprs n a others us
+        → (kind : Kind) (payload : Payload) (line : ℕ)
         → Begins (IsExprs n a) us (a_token kind payload line) (behind_expr factor most n a others kind payload line)
     begins_exprs others us is k.Comma nothing line = (
       at n k.Comma line,
@@ -460,7 +480,8 @@ module _ (factor : ℕ → ℕ → Prog Factor) (most : ℕ)
           refl,
           (λ e. cc),
           sound_says n k.Dot nothing line fits,
-          reads_bind (IsIdent n) Any (λ x vs. IsVariable n a x (us ++ w ∷ vs)) Any (λ name. done (tree.field_of v line name))
+          reads_bind (IsIdent n) Any (λ x vs. IsVariable n a x (us ++ w
+              ∷ vs)) Any (λ name. done (tree.field_of v line name))
               ident (reads_ident n fits)
               (λ name vs t also _. reads_done (λ x ws. IsVariable n a x (us ++ w ∷ (vs ++ ws))) Any t
               (tree.field_of v line name) (rw (append-nil vs, is, also) refl) tt)
@@ -481,7 +502,8 @@ module _ (factor : ℕ → ℕ → Prog Factor) (most : ℕ)
           (tree.buffer_of v line, [], rw is refl),
         )
 
-    begins_variable : (v : Variable) (us : List Word) → IsVariable n a v us → (kind : Kind) (payload : Payload) (line : ℕ)
+    begins_variable : (v : Variable) (us : List Word) → IsVariable n a v us
+        → (kind : Kind) (payload : Payload) (line : ℕ)
         → Begins (IsVariable n a) us (a_token kind payload line) (behind_variable factor most n a v kind payload line)
     begins_variable v us is k.LeftBracket nothing line = indexes_turn v us line is
     begins_variable v us is k.Dot nothing line = field_turn v us line is
@@ -500,7 +522,8 @@ module _ (factor : ℕ → ℕ → Prog Factor) (most : ℕ)
         → ReadsAt (a_token k.LeftParenthesis nothing line) (IsFactor n a) Any (parenthesized_by factor most n a line)
     reads_parenthesized line =
         let w = at (n + 1) k.LeftParenthesis line in
-        let further = λ (e : Expr). bind (look right_parenthesis_at) (λ closed. done (tree.parenthesized line e closed)) in
+        let further = λ (e : Expr). bind (look right_parenthesis_at) (λ closed. done (tree.parenthesized line e
+        closed)) in
         reads_unless (IsFactor n a) w.token (nat_lt NESTING_LIMIT (n + 1))
         (skip (bind (expr_by factor most (n + 1) a) further))
         (λ deep. record {
@@ -520,7 +543,8 @@ module _ (factor : ℕ → ℕ → Prog Factor) (most : ℕ)
         (reads_right_parenthesis (n + 1) (fits_of (n + 1) few)) (λ closed. rw is refl) ts)
         (λ e us is. (tree.parenthesized line e 0, at (n + 1) k.RightParenthesis 0 ∷ [], rw is refl))))
 
-    reads_negated : (line : ℕ) → ReadsAt (a_token k.Not nothing line) (IsFactor n a) Any (negated_by factor most n a line)
+    reads_negated : (line : ℕ) → ReadsAt (a_token k.Not nothing line) (IsFactor n a) Any (negated_by factor most n a
+        line)
     reads_negated line =
         let w = operator n (a + 1) k.Not line in
         let further = λ (f : Factor). done (tree.negated line f) in
@@ -597,7 +621,8 @@ module _ (factor : ℕ → ℕ → Prog Factor) (most : ℕ)
         let found : Quoted = record { text = text; line = line } in
         reads_skip (IsFactor n a) Any (text_at n found) (done (tree.literal_text found)) (λ e. cc)
         (sound_says n k.Text (spelling text) line fits)
-        (λ ts. reads_done (λ f ws. IsFactor n a f (text_at n found ∷ ws)) Any (head ts) (tree.literal_text found) refl tt
+        (λ ts. reads_done (λ f ws. IsFactor n a f (text_at n found
+        ∷ ws)) Any (head ts) (tree.literal_text found) refl tt
         ts refl)
     reads_factor_at k.LeftParenthesis nothing line = reads_parenthesized line
     reads_factor_at k.Not nothing line = reads_negated line

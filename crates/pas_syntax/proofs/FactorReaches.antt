@@ -77,7 +77,8 @@ name_ends k.LeftParenthesis e = absurd e
 name_ends kind e = tt
 
 name_ends_there : (n a : ℕ) (v : Variable) (vs : List Word) (rest : List Token)
-    → EndsName (head (tokens_in vs ++ rest)).kind → EndsName (head (tokens_in (selector_words n a v ++ vs) ++ rest)).kind
+    → EndsName (head (tokens_in vs ++ rest)).kind → EndsName (head (tokens_in (selector_words n a v ++ vs)
+    ++ rest)).kind
 name_ends_there n a (tree.whole ident) vs rest e = e
 name_ends_there n a (tree.indexed v opened indexes closed) vs rest e =
     let w = at (n + 1) k.LeftBracket opened in
@@ -164,7 +165,8 @@ module _ (factor : ℕ → ℕ → Prog Factor) (most : ℕ)
   no_selector n a v kind payload line e = refl
 
   -- a variable behind its name, behind which the loop goes on with the turns that are left
-  reaches_variable_on : (n a : ℕ) → n ≤ NESTING_LIMIT → (v : Variable) (left_turns : ℕ) (vs : List Word) (r : Out Variable)
+  reaches_variable_on : (n a : ℕ) → n ≤ NESTING_LIMIT → (v : Variable) (left_turns : ℕ) (vs : List Word) (r : Out
+      Variable)
       (rest : List Token) → most ≡ left_turns + turns_of_variable v → length (selector_words n a v) < most
       → Reaches (turns (behind_variable factor most n a) left_turns v) vs r rest
       → Reaches (variable_by factor most n a (name_of v)) (selector_words n a v ++ vs) r rest
@@ -193,7 +195,8 @@ module _ (factor : ℕ → ℕ → Prog Factor) (most : ℕ)
       (λ indexes. bind (look right_bracket_at) (λ closed. done (tree.indexed v opened indexes closed))) es ends_there
       indexes (Ok (new, behind)) behind
       (reaches_exprs (n + 1) a (fits_of (n + 1) few) indexes (tokens_in ends_there ++ behind) short tt)
-      (reaches_right_bracket (n + 1) (fits_of (n + 1) few) (λ closed. tree.indexed v opened indexes closed) closed behind))
+      (reaches_right_bracket (n + 1) (fits_of (n + 1) few) (λ closed. tree.indexed v opened indexes closed) closed
+      behind))
       then))
   reaches_variable_on n a fits (tree.field_of v line name) left_turns vs r rest is less then =
       let w = at n k.Dot line in
@@ -204,11 +207,13 @@ module _ (factor : ℕ → ℕ → Prog Factor) (most : ℕ)
       let shorter : length us < most = omega (arith, less, count) in
       let new = tree.field_of v line name in
       let behind = tokens_in vs ++ rest in
-      subst (λ all. Reaches (variable_by factor most n a (name_of v)) all r rest) (sym (append_assoc us (w ∷ (u ∷ [])) vs))
+      subst (λ all. Reaches (variable_by factor most n a (name_of v)) all r rest) (sym (append_assoc us (w ∷ (u
+      ∷ [])) vs))
       (reaches_variable_on n a fits v (suc left_turns) (w ∷ ((u ∷ []) ++ vs)) r rest more_turns shorter
       (reaches_more (behind_variable factor most n a) left_turns v w new (u ∷ []) vs
       (bind ident (λ name. done (tree.field_of v line name))) r rest refl (sound_says n k.Dot nothing line fits)
-      (reaches_skip (done new) u [] (Ok (new, behind)) behind (sound_says n k.Name (spelling name.name) name.line fits) refl)
+      (reaches_skip (done new) u [] (Ok (new, behind)) behind (sound_says n k.Name (spelling name.name) name.line
+      fits) refl)
       then))
   reaches_variable_on n a fits (tree.buffer_of v line) left_turns vs r rest is less then =
       let w = at n k.Caret line in
@@ -274,20 +279,25 @@ module _ (factor : ℕ → ℕ → Prog Factor) (most : ℕ)
       let es = expr_words (n + 1) a e in
       let inner : length (es ++ ends_there) ≡ length es + length ends_there = length-append es ends_there in
       let short : length es < most = omega (arith, less, inner) in
-      let further = λ (e : Expr). bind (look right_parenthesis_at) (λ closed. done (tree.parenthesized opened e closed)) in
+      let further = λ (e : Expr). bind (look right_parenthesis_at) (λ closed. done (tree.parenthesized opened e
+      closed)) in
       reaches_unless w (es ++ ends_there) (nat_lt NESTING_LIMIT (n + 1)) (bind (expr_by factor most (n + 1) a) further)
       (Ok (tree.parenthesized opened e closed, rest)) rest (deep_form (n + 1) k.LeftParenthesis opened)
       (λ few. sound_says (n + 1) k.LeftParenthesis nothing opened (fits_of (n + 1) few))
       (λ few. reaches_bind (expr_by factor most (n + 1) a) further es ends_there e
       (Ok (tree.parenthesized opened e closed, rest)) rest
       (reaches_expr factor most h (n + 1) a (fits_of (n + 1) few) e (tokens_in ends_there ++ rest) short tt)
-      (reaches_right_parenthesis (n + 1) (fits_of (n + 1) few) (λ closed. tree.parenthesized opened e closed) closed rest))
+      (reaches_right_parenthesis (n + 1) (fits_of (n + 1) few) (λ closed. tree.parenthesized opened e closed) closed
+      rest))
   reaches_factor_at n a fits (tree.negated line f) rest less end =
       let w = operator n (a + 1) k.Not line in
       let ws = factor_words n (a + 1) f in
       let short : length ws < most = omega (arith, less) in
       let further = λ (f : Factor). done (tree.negated line f) in
-      reaches_unless w ws (nat_lt NESTING_LIMIT (a + 1)) (bind (factor n (a + 1)) further) (Ok (tree.negated line f, rest)) rest
+      reaches_unless w ws (nat_lt NESTING_LIMIT (a + 1)) (bind (factor n (a + 1)) further) (Ok (
+        tree.negated line f,
+        rest,
+      )) rest
       (deep_operator n (a + 1) k.Not line fits) (sound_operator n (a + 1) k.Not line fits)
       (λ few. reaches_last (factor n (a + 1)) further ws f rest (h n (a + 1) f rest fits short end))
   reaches_factor_at n a fits (tree.variable v) rest less end =
@@ -307,12 +317,14 @@ module _ (factor : ℕ → ℕ → Prog Factor) (most : ℕ)
       (λ closed. done (tree.function_call name opened es closed)) in
       reaches_skip (look (behind_name factor most n a name)) u (w ∷ (es ++ ends_there)) (Ok (new, rest)) rest
       (sound_says n k.Name (spelling name.name) name.line fits)
-      (reaches_unless w (es ++ ends_there) (nat_lt NESTING_LIMIT (n + 1)) (bind (exprs_by factor most (n + 1) a) further)
+      (reaches_unless w (es ++ ends_there) (nat_lt NESTING_LIMIT (n + 1)) (bind (exprs_by factor most (n + 1) a)
+      further)
       (Ok (new, rest)) rest (deep_form (n + 1) k.LeftParenthesis opened)
       (λ few. sound_says (n + 1) k.LeftParenthesis nothing opened (fits_of (n + 1) few))
       (λ few. reaches_bind (exprs_by factor most (n + 1) a) further es ends_there arguments (Ok (new, rest)) rest
       (reaches_exprs (n + 1) a (fits_of (n + 1) few) arguments (tokens_in ends_there ++ rest) short tt)
-      (reaches_right_parenthesis (n + 1) (fits_of (n + 1) few) (λ closed. tree.function_call name opened arguments closed)
+      (reaches_right_parenthesis (n + 1) (fits_of (n + 1) few) (λ closed. tree.function_call name opened arguments
+      closed)
       closed rest)))
   reaches_factor_at n a fits (tree.set_value line) rest less end =
       reaches_shown SETS (shows n k.LeftBracket line SETS) [] (Ok (tree.set_value line, rest)) rest refl

@@ -22,17 +22,19 @@ ShownBy (shown part) w t = (w.token ≡ t) × (fault_of w ≡ Some (left_out par
 ShownBy why w t = Unit {0}
 
 -- a tree that goes on behind the tokens read
-pub record Stops {A : Type 0} (P : A → List Word → Type 0) (ts : List Token) (why : Why) (rest : List Token) : Type 0 where
-  pub tree : A
-  pub front : List Word
-  pub word : Word
-  pub behind : List Word
-  pub spelled : P tree (front ++ word ∷ behind)
-  pub read : ts ≡ tokens_in front ++ rest
-  pub sound : AreSound front
-  pub shows : ShownBy why word (head rest)
+pub record Stops {A : Type 0} (P : A → List Word → Type 0) (ts : List Token) (why : Why) (rest : List Token) : Type 0
+  where
+    pub tree : A
+    pub front : List Word
+    pub word : Word
+    pub behind : List Word
+    pub spelled : P tree (front ++ word ∷ behind)
+    pub read : ts ≡ tokens_in front ++ rest
+    pub sound : AreSound front
+    pub shows : ShownBy why word (head rest)
 
-pub record Takes {A : Type 0} (P : A → List Word → Type 0) (E : A → Token → Type 0) (ts : List Token) (a : A) (rest : List Token) : Type 0 where
+pub record Takes {A : Type 0} (P : A → List Word → Type 0) (E : A → Token
+    → Type 0) (ts : List Token) (a : A) (rest : List Token) : Type 0 where
   pub words : List Word
   pub spelled : P a words
   pub read : ts ≡ tokens_in words ++ rest
@@ -66,7 +68,8 @@ module _ {A : Type 0} (P : A → List Word → Type 0) (E : A → Token → Type
   pub reads_done : (t : Token) (a : A) → P a [] → E a t → ReadsAt t P E (done a)
   reads_done t a p e ts is = record { words = []; spelled = p; read = refl; sound = tt; behind = rw is e }
 
-  pub reads_wrong : (t : Token) (a : A) (w : Word) (behind : List Word) → P a (w ∷ behind) → ReadsAt t P E (fail misplaced)
+  pub reads_wrong : (t : Token) (a : A) (w : Word) (behind : List Word) → P a (w ∷ behind)
+      → ReadsAt t P E (fail misplaced)
   reads_wrong t a w behind p ts is =
       record { tree = a; front = []; word = w; behind = behind; spelled = p; read = refl; sound = tt; shows = tt }
 
@@ -130,7 +133,8 @@ read_append [] vs ts middle rest a b = a ∙ b
 read_append (u ∷ us) vs ts middle rest a b =
     a ∙ ap (λ x. u.token ∷ x) (read_append us vs (tokens_in us ++ middle) middle rest refl b)
 
-module _ {A B : Type 0} (P : A → List Word → Type 0) (E : A → Token → Type 0) (R : B → List Word → Type 0) (F : B → Token → Type 0) (g : A → Prog B) where
+module _ {A B : Type 0} (P : A → List Word → Type 0) (E : A → Token → Type 0) (R : B → List Word → Type 0) (F : B
+    → Token → Type 0) (g : A → Prog B) where
   -- each tree read first goes on as some tree of the whole
   abbrev pub GoesOn : Type 0
   GoesOn = (a : A) (us : List Word) → P a us → (b : B) × (vs : List Word) × R b (us ++ vs)

@@ -77,7 +77,8 @@ module _ {A : Type 0} (n : ℕ) (words : A → List Word) where
 
     -- what may stand behind an item: a comma, and what may stand behind them all
     module _ (Behind_it : Kind → Type 0) (comma : Behind_it k.Comma)
-        (h : (x : A) (rest : List Token) → Behind_it (head rest).kind → Reaches item (words x) (Ok (x, rest)) rest) where
+        (h : (x : A) (rest : List Token) → Behind_it (head rest).kind
+        → Reaches item (words x) (Ok (x, rest)) rest) where
       ends_there : (items : List (Behind A)) (vs : List Word) (rest : List Token)
           → Behind_it (head (tokens_in vs ++ rest)).kind
           → Behind_it (head (tokens_in (flat_map behind_words items ++ vs) ++ rest)).kind
@@ -93,7 +94,8 @@ module _ {A : Type 0} (n : ℕ) (words : A → List Word) where
           let all : left_turns ≡ left_turns + 0 = omega arith in
           let same : found.more ++ [] ≡ found.more = append-nil found.more in
           subst (λ m. Reaches (turns (behind_item item) m found) [] r rest) all
-          (subst (λ xs. Reaches (turns (behind_item item) left_turns (record { first = found.first; more = xs })) [] r rest)
+          (subst (λ xs. Reaches (turns (behind_item item) left_turns (record { first = found.first; more = xs })) [] r
+          rest)
           same then)
       reaches_more_items (next ∷ items) found left_turns r rest end then =
           let vs = flat_map behind_words items in
@@ -109,7 +111,8 @@ module _ {A : Type 0} (n : ℕ) (words : A → List Word) where
           (reaches_last item (λ x. done (pushed found next.line x)) (words next.item) next.item (tokens_in vs ++ rest)
           (h next.item (tokens_in vs ++ rest) behind))
           (reaches_more_items items new left_turns r rest end
-          (subst (λ xs. Reaches (turns (behind_item item) left_turns (record { first = found.first; more = xs })) [] r rest)
+          (subst (λ xs. Reaches (turns (behind_item item) left_turns (record { first = found.first; more = xs })) [] r
+          rest)
           (sym same) then)))
 
       pub reaches_items : (items : Separated A) (most : ℕ) (rest : List Token) → length items.more < most

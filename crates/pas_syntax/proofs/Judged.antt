@@ -25,7 +25,8 @@ pub tokens_append : (us vs : List Word) (rest : List Token)
 tokens_append [] vs rest = refl
 tokens_append (u ∷ us) vs rest = ap (λ ts. u.token ∷ ts) (tokens_append us vs rest)
 
-judged_by_append : {A : Type 0} (o : Option Wrong) (u : Word) (us vs : List Word) (x y : Out A) (rest : List Token) → x ≡ y
+judged_by_append : {A : Type 0} (o : Option Wrong) (u : Word) (us vs : List Word) (x y : Out A) (rest : List Token)
+    → x ≡ y
     → judged_by o u (us ++ vs) x rest ≡ judged_by o u us y (tokens_in vs ++ rest)
 judged_by_append None u us vs x y rest e = e
 judged_by_append (Some refusal) u us vs x y rest e =
@@ -35,7 +36,8 @@ pub judged_append : {A : Type 0} (us vs : List Word) (r : Out A) (rest : List To
     → judged (us ++ vs) r rest ≡ judged us (judged vs r rest) (tokens_in vs ++ rest)
 judged_append [] vs r rest = refl
 judged_append (u ∷ us) vs r rest =
-    judged_by_append (fault_of u) u us vs (judged (us ++ vs) r rest) (judged us (judged vs r rest) (tokens_in vs ++ rest))
+    judged_by_append (fault_of u) u us vs (judged (us ++ vs) r rest) (judged us (judged vs r rest) (tokens_in vs
+    ++ rest))
     rest (judged_append us vs r rest)
 
 judged_by_then : {A B : Type 0} (o : Option Wrong) (u : Word) (us : List Word) (x : Out A) (y : Out B) (g : A → Prog B)

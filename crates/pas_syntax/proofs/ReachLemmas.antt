@@ -56,7 +56,8 @@ unfolding turns
 reaches_end next k found rest is = ap (λ x. run (turn_by (turns next k) found x) rest) is
 
 -- a reader behind a word, unless this shows that nesting passes its limit
-pub reaches_unless : {A : Type 0} (w : Word) (ws : List Word) (b : Bool) (reader : Prog A) (r : Out A) (rest : List Token)
+pub reaches_unless : {A : Type 0} (w : Word) (ws : List Word) (b : Bool) (reader : Prog A) (r : Out A) (rest : List
+    Token)
     → (b ≡ true → fault_of w ≡ Some (left_out NESTING_PAST_LIMIT)) → (b ≡ false → IsSound w)
     → (b ≡ false → Reaches reader ws r rest) → Reaches (unless b (skip reader)) (w ∷ ws) r rest
 reaches_unless w ws true reader r rest deep sound read = reaches_shown NESTING_PAST_LIMIT w ws r rest (deep refl)
@@ -65,6 +66,7 @@ reaches_unless w ws false reader r rest deep sound read = reaches_skip reader w 
 -- a reader that looks at the token that comes next
 pub reaches_look : {A : Type 0} (next : Kind → Payload → ℕ → Prog A) (reader : Prog A) (ws : List Word) (r : Out A)
     (rest : List Token)
-    → next (head (tokens_in ws ++ rest)).kind (head (tokens_in ws ++ rest)).payload (head (tokens_in ws ++ rest)).line ≡ reader
+    → next (head (tokens_in ws ++ rest)).kind (head (tokens_in ws ++ rest)).payload (head (tokens_in ws
+    ++ rest)).line ≡ reader
     → Reaches reader ws r rest → Reaches (look next) ws r rest
 reaches_look next reader ws r rest is h = ap (λ q. run q (tokens_in ws ++ rest)) is ∙ h

@@ -31,7 +31,8 @@ module _ {S : Type 0} (R : S → List Word → Type 0) where
   module _ (next : S → Kind → Payload → ℕ → Next S)
       (begins : (s : S) (us : List Word) → R s us → (kind : Kind) (payload : Payload) (line : ℕ)
       → Begins us (a_token kind payload line) (next s kind payload line)) where
-    reads_turn_by : (again : S → Prog S) (found : S) (us : List Word) (t : Token) (n : Next S) → R found us → Begins us t n
+    reads_turn_by : (again : S → Prog S) (found : S) (us : List Word) (t : Token) (n : Next S) → R found us
+        → Begins us t n
         → ((s : S) (vs : List Word) → R s (us ++ vs) → Reads (λ x ws. R x ((us ++ vs) ++ ws)) Any (again s))
         → ReadsAt t (λ x ws. R x (us ++ ws)) Any (turn_by again found n)
     reads_turn_by again found us t (more q) r b h =

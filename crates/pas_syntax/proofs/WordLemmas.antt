@@ -16,7 +16,8 @@ use Rattle.pas_syntax.specs.inner.Readers.{unless, turn_unless}
 use Rattle.pas_syntax.proofs.Good.{ReadsAt, Reads, reads_shown}
 use Rattle.pas_syntax.proofs.TurnLemmas.{Any, Begins}
 
-pub sound_says : (n : ℕ) (kind : Kind) (payload : Payload) (line : ℕ) → n ≤ NESTING_LIMIT → IsSound (says n kind payload line)
+pub sound_says : (n : ℕ) (kind : Kind) (payload : Payload) (line : ℕ) → n ≤ NESTING_LIMIT
+    → IsSound (says n kind payload line)
 sound_says n kind payload line fits = rw (le-ltb NESTING_LIMIT n fits) refl
 
 pub sound_operator : (n count : ℕ) (kind : Kind) (line : ℕ) → n ≤ NESTING_LIMIT → nat_lt NESTING_LIMIT count ≡ false

@@ -97,7 +97,8 @@ pub record Arm : Type 0 where
   pub statement : Statement
 
 -- a layer of the code's statements, of which the inner ones are those of the definition
-abbrev pub OfStatements : (Type 0 → Type 0 → Type 0 → Type 0 → Type 0 → Type 0 → Type 0 → Type 0 → Type 0 → Type 0) → Type 0
+abbrev pub OfStatements : (Type 0 → Type 0 → Type 0 → Type 0 → Type 0 → Type 0 → Type 0 → Type 0 → Type 0 → Type 0)
+    → Type 0
 OfStatements Layer =
     Layer Others Plain Statement Compound Arm Elements (Elements → Elements) (Statements → Statements) Statements
 
@@ -158,7 +159,8 @@ module _ (spellings : List ℕ) where
 
   abbrev pub compound_in : code_compound.Compound → Compound
   compound_in = fold-Compound Others Plain Statement Compound Arm Elements (Elements → Elements)
-      (Statements → Statements) Statements others_step plain_step statement_step compound_step element_step elements_step
+      (Statements → Statements) Statements others_step plain_step statement_step compound_step element_step
+      elements_step
       more_element_step more_statement_step statements_step
 
   -- declarations
@@ -176,7 +178,13 @@ module _ (spellings : List ℕ) where
 
   abbrev pub type_row_in : CodeTypeRow → TypeRow
   type_row_in row =
-      record { name = ident_in spellings row.name; equals = row.equals; form = type_in spellings row.form; end = row.end }
+      record {
+        name = ident_in spellings row.name;
+        equals = row.equals;
+        form = type_in spellings row.form;
+        end =
+            row.end;
+      }
 
   abbrev pub variable_row_in : CodeVariableRow → VariableRow
   variable_row_in row =

@@ -82,7 +82,8 @@ simple_in spellings (simple.Named ident) = tree.simple_named (ident_in spellings
 simple_in spellings (simple.Range low line high) =
     tree.range (constant_in spellings low) line (constant_in spellings high)
 
--- a layer of the code's expressions, of which the inner ones are those of the definition; what stands behind others tells
+-- a layer of the code's expressions, of which the inner ones are those of the definition; what stands behind others
+-- tells
 -- what they become by it
 abbrev pub OfExprs : (Type 0 → Type 0 → Type 0 → Type 0 → Type 0 → Type 0 → Type 0 → Type 0 → Type 0 → Type 0) → Type 0
 OfExprs Layer = Layer Expr Factor (Variable → Variable) Sum Term Exprs Factor (Exprs → Exprs) Variable

@@ -34,7 +34,7 @@ impl Depth {
         })
     }
 
-    // Within the operand behind an operator, where so many operators stand on the longest way down through the operand
+    // Within the operand behind an operator, where so many operators stand on the longest way down through the one
     // before it.
     pub(crate) fn in_operand(self, left: usize) -> Result<Depth, Stop>
         requires { self.operators + left ≤ NESTING_LIMIT }

@@ -29,9 +29,9 @@ pub struct Program {
 ///
 /// # Errors
 ///
-/// The fault of the first token that shows one: 28 where the text has more than 16,777,216 bytes, at line 0; 50, 51 or 53
-/// of the tokens, which are cut off first; else 52 for a token that may not stand there, or 53 where it shows a part of
-/// Pascal that is left out or passes a limit of nesting, at the line of the token.
+/// The fault of the first token that shows one: 28 where the text has more than 16,777,216 bytes, at line 0; 50, 51 or
+/// 53 of the tokens, which are cut off first; else 52 for a token that may not stand there, or 53 where it shows a part
+/// of Pascal that is left out or passes a limit of nesting, at the line of the token.
 pub fn parse(alloc: Global, text: &[u8]) -> Result<Program, WorkErr>
     ensures ok { IfOk result (λ program. Means text.now (program_in program.spellings program.tree)) }
     ensures fault { IfFault result (λ fault. IsFaultOf text.now fault) }
