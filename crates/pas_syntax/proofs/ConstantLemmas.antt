@@ -179,3 +179,75 @@ module _ (n : ℕ) (fits : n ≤ NESTING_LIMIT) where
   reaches_constant (tree.text quoted) rest =
       reaches_skip (done (tree.text quoted)) (text_at n quoted) [] (Ok (tree.text quoted, rest)) rest
       (sound_says n k.Text (spelling quoted.text) quoted.line fits) refl
+
+  -- what may stand behind a simple type: no dots
+  abbrev pub EndsSimple : Kind → Type 0
+  EndsSimple k.Dots = ⊥
+  EndsSimple kind = Unit {0}
+
+  no_dots : (name : Ident) (kind : Kind) (payload : Payload) (line : ℕ) → EndsSimple kind
+      → behind_simple_name name kind payload line ≡ done (tree.simple_named name)
+  no_dots name k.Dots payload line e = absurd e
+  no_dots name kind payload line e = refl
+
+  signed_range : (lead : Sign) (line : ℕ)
+      → simple_at (sign_kind lead) nothing line ≡ bind constant (λ low. look (range_at low))
+  signed_range sign.Plus line = refl
+  signed_range sign.Minus line = refl
+
+  -- a subrange of which the lower bound is read as a constant
+  reaches_range : (low : Constant) (line : ℕ) (high : Constant) (rest : List Token)
+      → Reaches (bind constant (λ low. look (range_at low))) (constant_words n low ++ at n k.Dots line
+      ∷ constant_words n high)
+      (Ok (tree.range low line high, rest)) rest
+  reaches_range low line high rest =
+      let w = at n k.Dots line in
+      let hs = constant_words n high in
+      let s = tree.range low line high in
+      reaches_bind constant (λ low. look (range_at low)) (constant_words n low) (w ∷ hs) low (Ok (s, rest)) rest
+      (reaches_constant low (tokens_in (w ∷ hs) ++ rest))
+      (reaches_skip (bind constant (λ high. done (tree.range low line high))) w hs (Ok (s, rest)) rest
+      (sound_says n k.Dots nothing line fits)
+      (reaches_last constant (λ high. done (tree.range low line high)) hs high rest (reaches_constant high rest)))
+
+  pub reaches_simple : (s : Simple) (rest : List Token) → EndsSimple (head rest).kind
+      → Reaches simple (simple_words n s) (Ok (s, rest)) rest
+  reaches_simple (tree.simple_named name) rest end =
+      reaches_skip (look (behind_simple_name name)) (name_at n name) [] (Ok (tree.simple_named name, rest)) rest
+      (sound_says n k.Name (spelling name.name) name.line fits)
+      (reaches_look (behind_simple_name name) (done (tree.simple_named name)) [] (Ok (tree.simple_named name, rest))
+      rest
+      (no_dots name (head rest).kind (head rest).payload (head rest).line end) refl)
+  reaches_simple (tree.range (tree.number None numeral) line high) rest end =
+      reaches_range (tree.number None numeral) line high rest
+  reaches_simple (tree.range (tree.number (Some lead) numeral) line high) rest end =
+      let low = tree.number (Some lead) numeral in
+      reaches_look simple_at (bind constant (λ low. look (range_at low)))
+      (constant_words n low ++ at n k.Dots line ∷ constant_words n high) (Ok (tree.range low line high, rest)) rest
+      (signed_range lead.item lead.line) (reaches_range low line high rest)
+  reaches_simple (tree.range (tree.named None name) line high) rest end =
+      let w = at n k.Dots line in
+      let hs = constant_words n high in
+      let s = tree.range (tree.named None name) line high in
+      reaches_skip (look (behind_simple_name name)) (name_at n name) (w ∷ hs) (Ok (s, rest)) rest
+      (sound_says n k.Name (spelling name.name) name.line fits)
+      (reaches_skip (bind constant (λ high. done (tree.range (tree.named None name) line high))) w hs (Ok (s, rest))
+      rest
+      (sound_says n k.Dots nothing line fits)
+      (reaches_last constant (λ high. done (tree.range (tree.named None name) line high)) hs high rest
+      (reaches_constant high rest)))
+  reaches_simple (tree.range (tree.named (Some lead) name) line high) rest end =
+      let low = tree.named (Some lead) name in
+      reaches_look simple_at (bind constant (λ low. look (range_at low)))
+      (constant_words n low ++ at n k.Dots line ∷ constant_words n high) (Ok (tree.range low line high, rest)) rest
+      (signed_range lead.item lead.line) (reaches_range low line high rest)
+  reaches_simple (tree.range (tree.text quoted) line high) rest end =
+      reaches_range (tree.text quoted) line high rest
+  reaches_simple (tree.no_simple (tree.enumeration line)) rest end =
+      reaches_shown ENUMERATIONS (shows n k.LeftParenthesis line ENUMERATIONS) []
+      (Ok (tree.no_simple (tree.enumeration line), rest)) rest refl
+  reaches_simple (tree.no_simple (tree.set line)) rest end =
+      reaches_shown SETS (shows n k.Set line SETS) [] (Ok (tree.no_simple (tree.set line), rest)) rest refl
+  reaches_simple (tree.no_simple (tree.pointer line)) rest end =
+      reaches_shown POINTERS (shows n k.Caret line POINTERS) [] (Ok (tree.no_simple (tree.pointer line), rest)) rest
+      refl
