@@ -9,3 +9,4 @@ pub mod ExprReaches
 pub mod FactorReaches
 pub mod ItemLemmas
 pub mod ConstantLemmas
+pub mod TypeReads

@@ -7,9 +7,23 @@ use Rattle.pas_tokens.specs.Cutting.{Payload, nothing, value, spelling}
 use Rattle.pas_syntax.specs.declared.operators.Sign.{Sign}
 use Rattle.pas_syntax.specs.declared.operators.Sign.TheVariants as sign
 use Rattle.pas_syntax.specs.Tree as tree
-use Rattle.pas_syntax.specs.Tree.{Ident, Lined, Separated, Idents, Constant, Simple}
-use Rattle.pas_syntax.specs.inner.Prog.{Prog, done, fail, look, skip, bind, misplaced, shown, Next, more, ends, turns}
-use Rattle.pas_syntax.specs.inner.Readers.{ident}
+use Rattle.pas_syntax.specs.Tree.{Ident, Lined, Separated, Idents, Constant, Simple, TypeForm, Fields}
+use Rattle.pas_syntax.specs.inner.Prog.{
+  Prog,
+  done,
+  fail,
+  look,
+  skip,
+  bind,
+  misplaced,
+  shown,
+  spent,
+  Next,
+  more,
+  ends,
+  turns,
+}
+use Rattle.pas_syntax.specs.inner.Readers.{in_form, ident, right_bracket_at}
 
 -- items with one more behind a separator in this line
 abbrev pub pushed : {A : Type 0} → Separated A → ℕ → A → Separated A
@@ -64,3 +78,85 @@ simple_at kind payload line = bind constant (λ low. look (range_at low))
 
 abbrev pub simple : Prog Simple
 simple = look simple_at
+
+-- type = simple
+--      | ["packed"] "array" "[" simple {"," simple} "]" "of" type
+--      | ["packed"] "record" ids ":" type {";" ids ":" type} [";"] "end"
+--      | ["packed"] "file" "of" type
+abbrev pub of_at : Kind → Payload → ℕ → Prog ℕ
+of_at k.Of nothing line = skip (done line)
+of_at kind payload line = fail misplaced
+
+abbrev pub colon_at : Kind → Payload → ℕ → Prog ℕ
+colon_at k.Colon nothing line = skip (done line)
+colon_at kind payload line = fail misplaced
+
+abbrev pub end_at : Kind → Payload → ℕ → Prog ℕ
+end_at k.End nothing line = skip (done line)
+end_at kind payload line = fail misplaced
+
+-- fields so far, and the semicolon behind them, if that is the last token read
+pub record FieldsRead : Type 0 where
+  pub fields : Fields
+  pub semicolon : Option ℕ
+
+module _ (form : ℕ → Prog TypeForm) (most : ℕ) where
+  abbrev pub indexes_at : ℕ → (ℕ → Separated Simple → ℕ → ℕ → Prog TypeForm) → Kind → Payload → ℕ → Prog TypeForm
+  indexes_at n further k.LeftBracket nothing opened =
+      in_form (n + 2) (skip (bind (items_by simple most) (λ indexes. bind (look right_bracket_at)
+      (λ closed. bind (look of_at) (λ of_line. further opened indexes closed of_line)))))
+  indexes_at n further kind payload line = fail misplaced
+
+  abbrev pub array_by : ℕ → Option ℕ → ℕ → Prog TypeForm
+  array_by n packed line =
+      in_form (n + 1) (skip (look (indexes_at n (λ opened indexes closed of_line. bind (form (n + 1))
+      (λ element. done (tree.array packed line opened indexes closed of_line element))))))
+
+  abbrev pub file_by : ℕ → Option ℕ → ℕ → Prog TypeForm
+  file_by n packed line =
+      in_form (n + 1) (skip (bind (look of_at) (λ of_line. bind (form (n + 1))
+      (λ component. done (tree.file packed line of_line component)))))
+
+  -- ids ":" type
+  abbrev pub group_by : {A : Type 0} → ℕ → Prog Idents → (Idents → ℕ → TypeForm → A) → Prog A
+  group_by n names make =
+      bind names (λ all. bind (look colon_at) (λ colon. bind (form n) (λ element. done (make all colon element))))
+
+  -- behind a semicolon: more fields, or nothing
+  abbrev pub behind_semicolon : ℕ → Fields → ℕ → Kind → Payload → ℕ → Prog FieldsRead
+  behind_semicolon n fields line k.Name payload name_line =
+      group_by n (items_by ident most)
+      (λ names colon element. record { fields = tree.more_fields fields line names colon element; semicolon = None })
+  behind_semicolon n fields line kind payload other_line = done (record { fields = fields; semicolon = Some line })
+
+  abbrev pub behind_fields_by : ℕ → Fields → Option ℕ → Kind → Payload → ℕ → Next FieldsRead
+  behind_fields_by n fields None k.Semicolon nothing line = more (look (behind_semicolon n fields line))
+  behind_fields_by n fields semicolon kind payload line = ends
+
+  abbrev pub behind_fields : ℕ → FieldsRead → Kind → Payload → ℕ → Next FieldsRead
+  behind_fields n found kind payload line = behind_fields_by n found.fields found.semicolon kind payload line
+
+  abbrev pub record_by : ℕ → Option ℕ → ℕ → Prog TypeForm
+  record_by n packed line =
+      in_form (n + 1) (skip (bind (group_by (n + 1) (items_by ident most)
+      (λ names colon element. record { fields = tree.first_fields names colon element; semicolon = None }))
+      (λ first. bind (turns (behind_fields (n + 1)) most first) (λ found. bind (look end_at)
+      (λ end. done (tree.record_type packed line found.fields found.semicolon end))))))
+
+  abbrev pub structured_at : ℕ → Option ℕ → Kind → Payload → ℕ → Prog TypeForm
+  structured_at n packed k.Array nothing line = array_by n packed line
+  structured_at n packed k.Record nothing line = record_by n packed line
+  structured_at n packed k.File nothing line = file_by n packed line
+  structured_at n packed kind payload line = fail misplaced
+
+  abbrev pub type_at : ℕ → Kind → Payload → ℕ → Prog TypeForm
+  type_at n k.Packed nothing line = skip (look (structured_at n (Some line)))
+  type_at n k.Array nothing line = array_by n None line
+  type_at n k.Record nothing line = record_by n None line
+  type_at n k.File nothing line = file_by n None line
+  type_at n kind payload line = bind simple (λ s. done (tree.simple s))
+
+-- a type, where so many turns may be taken
+unfoldable pub type_form : ℕ → ℕ → Prog TypeForm
+type_form zero n = fail spent
+type_form (suc most) n = look (type_at (type_form most) most n)
