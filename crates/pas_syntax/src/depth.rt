@@ -1,5 +1,6 @@
 //! How deep a place lies.
 ghost use Rattle.std.specs.Prelude.{◌≡◌, ◌≤◌, ◌+◌, nat_lt, if◌then◌else◌, Ok, Err};
+ghost use Rattle.pas_syntax.specs.declared.stop.Stop.TheVariants.{LeftOut};
 
 use crate::limits::NESTING_LIMIT;
 use crate::stop::Stop;
@@ -22,7 +23,7 @@ impl Depth {
     // Within one form more.
     pub(crate) fn in_form(self) -> Result<Depth, Stop>
         requires { self.forms ≤ NESTING_LIMIT }
-        ensures { result ≡ (if nat_lt NESTING_LIMIT (self.forms + 1) then Err (Stop.LeftOut NESTING_PAST_LIMIT)
+        ensures { result ≡ (if nat_lt NESTING_LIMIT (self.forms + 1) then Err (LeftOut NESTING_PAST_LIMIT)
             else Ok (record { forms = self.forms + 1; operators = self.operators })) }
     {
         if self.forms >= NESTING_LIMIT {
@@ -38,7 +39,7 @@ impl Depth {
     // before it.
     pub(crate) fn in_operand(self, left: usize) -> Result<Depth, Stop>
         requires { self.operators + left ≤ NESTING_LIMIT }
-        ensures { result ≡ (if nat_lt NESTING_LIMIT (self.operators + 1 + left) then Err (Stop.LeftOut NESTING_PAST_LIMIT)
+        ensures { result ≡ (if nat_lt NESTING_LIMIT (self.operators + 1 + left) then Err (LeftOut NESTING_PAST_LIMIT)
             else Ok (record { forms = self.forms; operators = self.operators + 1 })) }
     {
         if self.operators + left >= NESTING_LIMIT {
