@@ -159,3 +159,29 @@ module _ (form : ℕ → Prog TypeForm) (most : ℕ)
               ∷ name_at (n + 1) zero_name ∷ [],
           rw is refl,
         ))))
+
+    reads_indexes_at : n + 1 ≤ NESTING_LIMIT → (kind : Kind) (payload : Payload) (opened : ℕ)
+        → ReadsAt (a_token kind payload opened) (λ f vs. IsType n f (before ++ array_word ∷ vs)) Any
+        (indexes_at form most n make kind payload opened)
+    reads_indexes_at fits k.LeftBracket nothing opened = reads_open fits opened
+    reads_indexes_at fits kind payload opened =
+        reads_wrong (λ f vs. IsType n f (before ++ array_word ∷ vs)) Any (a_token kind payload opened)
+        (tree.array packed line 0 (single zero_simple) 0 0 zero_type) (at (n + 2) k.LeftBracket 0) rest_words refl
+
+    reads_array : ReadsAt (a_token k.Array nothing line) (λ f vs. IsType n f (before ++ vs)) Any
+        (array_by form most n packed line)
+    reads_array =
+        let P = λ (f : TypeForm) (vs : List Word). IsType n f (before ++ vs) in
+        reads_unless P array_word.token (nat_lt NESTING_LIMIT (n + 1)) (skip (look (indexes_at form most n make)))
+        (λ deep. record {
+          tree = tree.array packed line 0 (single zero_simple) 0 0 zero_type;
+          word = array_word;
+          behind = at (n + 2) k.LeftBracket 0 ∷ rest_words;
+          spelled = refl;
+          same = refl;
+          shows = deep_form (n + 1) k.Array line deep;
+        })
+        (λ few. reads_skip P Any array_word (look (indexes_at form most n make)) (λ e. cc)
+        (sound_says (n + 1) k.Array nothing line (fits_of (n + 1) few))
+        (reads_look (λ f vs. P f (array_word ∷ vs)) Any (indexes_at form most n make)
+        (reads_indexes_at (fits_of (n + 1) few))))
