@@ -10,16 +10,21 @@ export WEBINPUTS=.
 program=$top/out/web2c
 [ -x "$program" ] || { echo "run ./web2c first, which builds the program"; exit 3; }
 
-# The least time of the runs of a command, in microseconds, or - where it does not end with status 0.
-best() { # RUNS WORDS...
-    local runs=$1 least=- begun taken; shift
-    for ((run = 0; run < runs; run++)); do
-        begun=${EPOCHREALTIME/./}
-        "$@" >output 2>&1 || { echo -; return; }
-        taken=$((${EPOCHREALTIME/./} - begun))
-        { [ "$least" = - ] || [ "$taken" -lt "$least" ]; } && least=$taken
+# The time of a command in microseconds, or - where it does not end with status 0.
+time_of() { # WORDS...
+    local begun=${EPOCHREALTIME/./}
+    "$@" >output 2>&1 || { echo -; return; }
+    echo $((${EPOCHREALTIME/./} - begun))
+}
+
+# The least times of web2c and of its peer over ten runs in turn, as ours and theirs; - where a run failed.
+race() { # COMMAND OUR_FILE THEIR_FILE
+    rm -f ours.times theirs.times
+    for ((run = 0; run < 10; run++)); do
+        time_of "$program" "$1" "$2" >>ours.times
+        time_of "$1" "$3" >>theirs.times
     done
-    echo "$least"
+    ours=$(sort -n ours.times | head -n 1) theirs=$(sort -n theirs.times | head -n 1)
 }
 
 # The peak memory of a command in KiB.
@@ -38,8 +43,7 @@ for size in "${@:-300000 1000000 3000000 16000000}"; do
     for bytes in $size; do
         awk -v bytes="$bytes" -f "$top/tests/make_web.awk" >made.web
         cp made.web peer.web
-        ours=$(best 10 "$program" tangle made.web)
-        theirs=$(best 10 tangle peer.web)
+        race tangle made.web peer.web
         row tangle "$(stat -c %s made.web)" "$(stat -c %s made.p)" "$ours" "$theirs" "$(peak "$program" tangle made.web)"
     done
 done
@@ -47,7 +51,6 @@ done
 # A pool of 32,000 strings of 40 bytes.
 awk 'BEGIN { for (n = 0; n < 32000; n++) printf "40string number %05d of the pool, with words\n", n; print "*000000000" }' |
     cut -c 1-42 >made.pool
-ours=$(best 10 "$program" pooltype made.pool)
-theirs=$(best 10 pooltype made.pool)
+race pooltype made.pool made.pool
 "$program" pooltype made.pool >listing
 row pooltype "$(stat -c %s made.pool)" "$(stat -c %s listing)" "$ours" "$theirs" "$(peak "$program" pooltype made.pool)"

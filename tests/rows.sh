@@ -125,6 +125,9 @@ word=$(letters b 50)
 row 'tangle t.web' "@ @p x:=1; $word $(letters c 20)" '' 0 '' "{1:}x:=1;\n$word $(letters c 20)\n{:1}\n"
 row 'tangle t.web' "@ @p x:=1; $word $(letters c 22)" '' 0 '' "{1:}x:=1;$word\n$(letters c 22){:1}\n"
 row 'tangle t.web' "@ @p $word@&$(letters c 23)" '' 1 '! t.p:1: line too long to cut (F37)\n' ''
+row 'tangle t.web' '@ @p foo_bar\n:=\nfoobar\n;' '' 1 '! t.web:3: identifier conflict (F21)\n' old
+row 'tangle t.web' '@ @p @<Inner part@>\n@<Initialize@>\n@<In...@>\n;' '' 1 \
+    '! t.web:3: prefix matches several names (F26)\n' old
 row 'tangle t.web' '@ @p foo_bar:=foobar' '' 1 '! t.web:1: identifier conflict (F21)\n' old
 row 'tangle --underline t.web' '@ @p foo_bar:=foobar' '' 0 '' '{1:}foo_bar:=foobar{:1}\n'
 row 'tangle --underline --strict t.web' '@ @p foo_bar:=foobar' '' 1 '! t.web:1: identifier conflict (F21)\n' old
