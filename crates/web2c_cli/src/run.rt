@@ -32,10 +32,12 @@ const USAGE_LINE: &[u8] =
 /// status for the program to end with: 0 where the work was done, 1 where an input has a fault, 2 where the command
 /// line is faulty, 3 where a call on the shelf or the console failed, 4 where no memory was found.
 ///
-/// `tangle WEB [CH]` reads the web and the change file from the shelf and leaves the Pascal text there. `pooltype POOL`
-/// reads the pool and prints its listing. A fault is one line on the console, and leaves every file as it was; a faulty
-/// command line is answered by the usage line. Nothing else is printed. No file is open afterwards, but after status 3
-/// one may be. The ports are left as they were. This project's own.
+/// `tangle WEB [CH]` reads the web and the change file from the shelf and leaves the Pascal file there, and behind it the
+/// pool, if the web has a string for it; a line tells of a web without output. `pooltype POOL` reads the pool and prints
+/// its listing. A fault is one line on the console. One of the change file or the web leaves every file as it was; one
+/// of the expansion leaves the Pascal file with the lines finished before it; one of a pool comes behind its listing. A
+/// faulty command line is answered by the usage line. Nothing else is printed. No file is open afterwards, but after
+/// status 3 one may be. The ports are left as they were. This project's own.
 pub fn run<S: Shelf, K: Sink>(
     alloc: Global,
     words: &Words,
