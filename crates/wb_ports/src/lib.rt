@@ -5,6 +5,7 @@
 mod answers;
 mod counting;
 mod dir_shelf;
+mod gathering;
 mod mem_shelf;
 mod mem_sink;
 mod port;
