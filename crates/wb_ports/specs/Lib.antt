@@ -10,6 +10,7 @@ pub mod PortState
 pub mod InMemory
 pub mod MemSink
 pub mod MemShelf
+pub mod MemPort
 pub mod DirShelf
 pub mod StdSink
 pub mod QuietSink
