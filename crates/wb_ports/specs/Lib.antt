@@ -12,6 +12,7 @@ pub mod MemSink
 pub mod MemShelf
 pub mod MemPort
 pub mod DirShelf
+pub mod FilePort
 pub mod StdSink
 pub mod QuietSink
 pub mod inner

@@ -2,3 +2,5 @@
 pub mod Gathered
 pub mod MemShelfKept
 pub mod Moving
+pub mod Streams
+pub mod Unread
