@@ -14,5 +14,6 @@ pub mod MemPort
 pub mod DirShelf
 pub mod FilePort
 pub mod StdSink
+pub mod StdPort
 pub mod QuietSink
 pub mod inner

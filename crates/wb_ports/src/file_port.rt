@@ -121,7 +121,8 @@ impl<R: Files + Drop> Port for FilePort<R> {
         ensures same_left { OnErr result (self.new.left ≡ self.old.left) }
         ensures cause { CountsFailure (is_err result) self.old.failures self.new.failures }
     {
-        match reopened(&mut self.stream, &mut self.gatherer, &self.files, &self.path) {
+        let handed = hand_on(&mut self.stream, &mut self.gatherer);
+        match open_after(handed, &self.files, &self.path) {
             Ok(file) => {
                 self.stream = Stream::Reading(file);
                 self.reader.clear();
@@ -171,7 +172,8 @@ impl<R: Files + Drop> Port for FilePort<R> {
         ensures left { self.new.left ≡ self.old.left }
         ensures cause { CountsFailure (is_err result) self.old.failures self.new.failures }
     {
-        match remade(&mut self.stream, &mut self.gatherer, &self.files, &self.path) {
+        let handed = hand_on(&mut self.stream, &mut self.gatherer);
+        match create_after(handed, &self.files, &self.path) {
             Ok(file) => {
                 self.stream = Stream::Writing(file);
                 Ok(())
@@ -245,44 +247,30 @@ fn hand_on<F: Write>(stream: &mut Stream<F>, gatherer: &mut Gatherer) -> Result<
     }
 }
 
-// Hands on what is gathered, and opens the file for reading.
-fn reopened<R: Files>(
-    stream: &mut Stream<R::File>,
-    gatherer: &mut Gatherer,
+// Opens the file for reading, once what was gathered is handed on.
+fn open_after<R: Files>(
+    handed: Result<(), Failed>,
     files: &R,
     path: &Text,
 ) -> Result<R::File, Failed>
-    ensures empty { OnOk result (mode_of stream.old ≡ Mode.Writing → gatherer.new.kept ≡ []) }
-    ensures written { Keeps (written_of R.File.contents gatherer.old.kept stream.old)
-        (written_of R.File.contents gatherer.new.kept stream.new) }
-    ensures mode { mode_of stream.new ≡ mode_of stream.old }
-    ensures room { gatherer.new.room ≡ gatherer.old.room }
-    ensures same_kept { mode_of stream.old ≢ Mode.Writing → gatherer.new ≡ gatherer.old }
-    ensures same_stream { mode_of stream.old ≢ Mode.Writing → stream.new ≡ stream.old }
+    ensures { IsOk result → IsOk handed }
 {
-    hand_on(stream, gatherer)?;
+    handed?;
     let Ok(path) = str::from_utf8(path.bytes()) else {
         return Err(Failed);
     };
     fs::open(files, path).map_err(|_| Failed)
 }
 
-// Hands on what is gathered, and makes the file empty.
-fn remade<R: Files>(
-    stream: &mut Stream<R::File>,
-    gatherer: &mut Gatherer,
+// Makes the file empty, once what was gathered is handed on.
+fn create_after<R: Files>(
+    handed: Result<(), Failed>,
     files: &R,
     path: &Text,
 ) -> Result<R::File, Failed>
-    ensures empty { OnOk result (mode_of stream.old ≡ Mode.Writing → gatherer.new.kept ≡ []) }
-    ensures written { Keeps (written_of R.File.contents gatherer.old.kept stream.old)
-        (written_of R.File.contents gatherer.new.kept stream.new) }
-    ensures mode { mode_of stream.new ≡ mode_of stream.old }
-    ensures room { gatherer.new.room ≡ gatherer.old.room }
-    ensures same_kept { mode_of stream.old ≢ Mode.Writing → gatherer.new ≡ gatherer.old }
-    ensures same_stream { mode_of stream.old ≢ Mode.Writing → stream.new ≡ stream.old }
+    ensures { IsOk result → IsOk handed }
 {
-    hand_on(stream, gatherer)?;
+    handed?;
     let Ok(path) = str::from_utf8(path.bytes()) else {
         return Err(Failed);
     };
