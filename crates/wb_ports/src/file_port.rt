@@ -144,6 +144,12 @@ impl<R: Files + Drop> Port for FilePort<R> {
         ensures ok { IfOk result (λ byte. TakesNext byte self.old.unread self.new.unread) }
         ensures failed { OnErr result (Keeps self.old.unread self.new.unread) }
         ensures ready { 0 < length self.old.ahead → 0 < self.old.left → IsOk result }
+        ensures rest { self.new ≡ record self.old {
+          left = self.new.left;
+          unread = self.new.unread;
+          ahead = self.new.ahead;
+          failures = self.new.failures;
+        } }
 
         ensures mode { self.new.mode ≡ self.old.mode }
         ensures left { IfOk result (λ byte. Gives byte self.old.left self.new.left) }
@@ -193,6 +199,11 @@ impl<R: Files + Drop> Port for FilePort<R> {
         ensures ok { OnOk result (Appends self.old.written self.new.written (byte ∷ [])) }
         ensures failed { OnErr result ((n : ℕ) × Appends self.old.written self.new.written (take n (byte ∷ []))) }
         ensures gathers { length self.old.gathered < BLOCK → IsOk result }
+        ensures rest { self.new ≡ record self.old {
+          written = self.new.written;
+          gathered = self.new.gathered;
+          failures = self.new.failures;
+        } }
 
         ensures mode { self.new.mode ≡ self.old.mode }
         ensures left { self.new.left ≡ self.old.left }

@@ -146,8 +146,11 @@ impl<I: Read + Drop, O: Write + Drop> Port for StdPort<I, O> {
     /// changes nothing but the count.
     fn begin(&mut self) -> Result<(), Failed>
         ensures written { Keeps self.old.written self.new.written }
-        ensures unread { self.new.unread ≡ self.old.unread }
-        ensures same_taken { self.new.is_taken ≡ self.old.is_taken }
+        ensures rest { self.new ≡ record self.old {
+          mode = self.new.mode;
+          written = self.new.written;
+          failures = self.new.failures;
+        } }
 
         ensures writing { OnOk result (self.new.mode ≡ Mode.Writing) }
         ensures same_mode { OnErr result (self.new.mode ≡ self.old.mode) }
@@ -172,8 +175,7 @@ impl<I: Read + Drop, O: Write + Drop> Port for StdPort<I, O> {
 
         ensures ok { OnOk result (Appends self.old.written self.new.written (byte ∷ [])) }
         ensures failed { OnErr result ((n : ℕ) × Appends self.old.written self.new.written (take n (byte ∷ []))) }
-        ensures unread { self.new.unread ≡ self.old.unread }
-        ensures same_taken { self.new.is_taken ≡ self.old.is_taken }
+        ensures rest { self.new ≡ record self.old { written = self.new.written; failures = self.new.failures } }
 
         ensures mode { self.new.mode ≡ self.old.mode }
         ensures left { self.new.left ≡ self.old.left }
@@ -189,8 +191,7 @@ impl<I: Read + Drop, O: Write + Drop> Port for StdPort<I, O> {
     /// Flushes what was put. It fails where the stream does.
     fn finish(&mut self) -> Result<(), Failed>
         ensures written { Keeps self.old.written self.new.written }
-        ensures unread { self.new.unread ≡ self.old.unread }
-        ensures same_taken { self.new.is_taken ≡ self.old.is_taken }
+        ensures rest { self.new ≡ record self.old { written = self.new.written; failures = self.new.failures } }
 
         ensures mode { self.new.mode ≡ self.old.mode }
         ensures left { self.new.left ≡ self.old.left }
