@@ -232,3 +232,18 @@ fn a_port_over_the_standard_streams_writes(rt: HostRuntime) -> Result<(), Fail> 
     assert_eq!(rt; port.finish(), Ok(()));
     Ok(())
 }
+
+#[test]
+fn ports_of_each_kind_stand_in_one_list(rt: HostRuntime) -> Result<(), Fail> {
+    let alloc = rt.alloc();
+    let mut ports: Vec<Box<dyn Port>> = Vec::new(alloc);
+    ports.push(Box::new(alloc, MemPort::new(alloc, b"", 1, &[])?)?)?;
+    ports.push(Box::new(alloc, FilePort::new(alloc, rt, b"t.list")?)?)?;
+    ports.push(Box::new(alloc, StdPort::new(alloc, rt.stdin(), rt.stdout())?)?)?;
+    for port in &mut ports {
+        assert_eq!(rt; port.begin(), Ok(()));
+        assert_eq!(rt; port.finish(), Ok(()));
+    }
+    fs::remove_file(&rt, "t.list")?;
+    Ok(())
+}
