@@ -3,9 +3,9 @@ use Rattle.std.specs.Prelude.{ℕ, List, [], ◌∷◌, Option, Some, None}
 use Rattle.std.specs.Io.KnownBytes.{Keeps, Consumes, IsAtEnd}
 use Rattle.wb_ports.specs.declared.port.Mode.{Mode}
 
--- what it is in use for; how many bytes it may still give; what the file that is written will hold, and what is left of
--- the one that is read, where std knows that; what is put and not yet handed on; what is read and not yet taken; and how
--- many calls failed
+-- what it is in use for; how many bytes it may still give; what the file that is written will hold, and what is left
+-- of the one that is read, where std knows that; what is put and not yet handed on; what is read and not yet taken; and
+-- how many calls failed
 pub record FilePortState : Type 0 where
   pub mode : Mode
   pub left : ℕ

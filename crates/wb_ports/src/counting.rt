@@ -1,5 +1,6 @@
 //! How the objects of the outside count their failed calls, and those in memory know which calls are to fail.
-ghost use Rattle.std.specs.Prelude.{◌≡◌, ◌+◌, ◌-◌, ◌≤◌, ◌++◌, take, length, vec_len, vec_capacity, nat_le, IfOk, is_err};
+ghost use Rattle.std.specs.Prelude.{◌≡◌, ◌+◌, ◌-◌, ◌≤◌, ◌++◌, take, length, vec_len, vec_capacity, nat_le, IfOk};
+ghost use Rattle.std.specs.Prelude.{is_err};
 ghost use Rattle.wb_ports.specs.Counts.{CountsFailure, Rose, next_count};
 ghost use Rattle.wb_ports.specs.InMemory.{is_next_listed, with_call, with_failure, after_call};
 

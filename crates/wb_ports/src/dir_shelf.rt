@@ -47,7 +47,8 @@ impl<R: Files> Model for DirShelf<R> {
 
     ghost view = { λ shelf. record {
       is_open = is_some shelf.open_file;
-      written = option_and_then (λ opened. append_known (R.File.contents opened.file) opened.gatherer.kept) shelf.open_file;
+      written = option_and_then (λ opened. append_known (R.File.contents opened.file) opened.gatherer.kept)
+          shelf.open_file;
       faults = shelf.faults;
     } };
 }

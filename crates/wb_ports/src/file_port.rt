@@ -1,5 +1,6 @@
 //! A port over a real file.
-ghost use Rattle.std.specs.Prelude.{◌≡◌, ◌≤◌, ◌<◌, ◌≢◌, ◌∷◌, ℕ, [], length, take, None, IsOk, IfOk, OnOk, OnErr, is_err};
+ghost use Rattle.std.specs.Prelude.{◌≡◌, ◌≤◌, ◌<◌, ◌≢◌, ◌∷◌, ℕ, [], length, take, None, IsOk, IfOk, OnOk};
+ghost use Rattle.std.specs.Prelude.{OnErr, is_err};
 ghost use Rattle.std.specs.Io.KnownBytes.{Keeps, Appends};
 ghost use Rattle.wb_ports.specs.Counts.{CountsFailure};
 ghost use Rattle.wb_ports.specs.FilePort.{FilePortState, TakesNext};

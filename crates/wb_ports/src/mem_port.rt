@@ -183,7 +183,8 @@ impl Port for MemPort {
         Ok(Some(byte))
     }
 
-    /// Empties the port for writing. It fails exactly where the call is listed, and then changes nothing but the counts.
+    /// Empties the port for writing. It fails exactly where the call is listed, and then changes nothing but the
+    /// counts.
     fn begin(&mut self) -> Result<(), Failed>
         ensures fails { is_err result ≡ is_next_listed self.old.calls }
         ensures done { OnOk result (self.new ≡ record (after_success begun_port self.old) { mode = Mode.Writing }) }

@@ -1,6 +1,6 @@
 //! A port over two streams, such as the standard ones.
-ghost use Rattle.std.specs.Prelude.{◌≡◌, ◌≤◌, ◌<◌, ◌∷◌, ◌||◌, ℕ, false, [], length, take, None, IsOk, IfOk, OnOk, OnErr};
-ghost use Rattle.std.specs.Prelude.{is_err, is_some};
+ghost use Rattle.std.specs.Prelude.{◌≡◌, ◌≤◌, ◌<◌, ◌∷◌, ◌||◌, ℕ, false, [], length, take, None, IsOk, IfOk};
+ghost use Rattle.std.specs.Prelude.{OnOk, OnErr, is_err, is_some};
 ghost use Rattle.std.specs.Io.KnownBytes.{Keeps, Appends, prepend_known};
 ghost use Rattle.wb_ports.specs.Counts.{CountsFailure, next_count};
 ghost use Rattle.wb_ports.specs.FilePort.{TakesNext};
@@ -18,9 +18,9 @@ use std::marker::Model;
 use wb_base::OutOfMemory;
 
 /// Two streams, as a run of a Pascal program uses them: one is read by blocks, the other written. What is put goes to
-/// the written stream at once, which may gather it, as a `SharedWriter` does; it is flushed at `finish` and `begin`, and
-/// before the other is read, so that who reads a question can answer it. It tells no content. To contracts it is a
-/// `StdPortState`. This project's own.
+/// the written stream at once, which may gather it, as a `SharedWriter` does; it is flushed at `finish` and `begin`,
+/// and before the other is read, so that who reads a question can answer it. It tells no content. To contracts it is
+/// a `StdPortState`. This project's own.
 #[derive(Drop)]
 pub struct StdPort<I: Read + Drop, O: Write + Drop> {
     input: I,
