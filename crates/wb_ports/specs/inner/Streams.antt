@@ -1,5 +1,5 @@
 -- How a port over a real file keeps it. No public contract cites this.
-use Rattle.std.specs.Prelude.{ℕ, List, Option, Some, None}
+use Rattle.std.specs.Prelude.{ℕ, List, Option, None}
 use Rattle.std.specs.Io.KnownBytes.{append_known, prepend_known}
 use Rattle.wb_ports.specs.declared.file_port.Stream.{Stream}
 use Rattle.wb_ports.specs.declared.port.Mode.{Mode}

@@ -1,4 +1,4 @@
-use Rattle.std.proofs.Common.{◌≡◌, ◌≤◌, vec_len, vec_capacity, length}
+use Rattle.std.proofs.Common.{◌≡◌, ◌≤◌, vec_len, vec_capacity}
 use Rattle.std.specs.Io.KnownBytes.{Keeps, append_known}
 use Rattle.wb_ports.proofs.gathering.write_out.Given as goal
 
