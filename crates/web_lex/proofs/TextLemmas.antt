@@ -1,5 +1,5 @@
 -- The text that stands before a cursor, a line at a time.
-use Rattle.std.proofs.Common.{◌≡◌, ◌≢◌, ℕ, zero, suc, ◌+◌, ◌<◌, ◌≤◌, false, List, [], ◌∷◌, ◌++◌, map}
+use Rattle.std.proofs.Common.{◌≡◌, ◌≢◌, ℕ, zero, suc, ◌+◌, ◌<◌, ◌≤◌, true, false, List, [], ◌∷◌, ◌++◌, map}
 use Rattle.std.proofs.Common.{length, take, drop, Some, unwrap_or, refl, sym, ap, ◌∙◌, arith}
 use Rattle.std.specs.Prelude.{slice_get}
 use Rattle.std.specs.List.{position_or_len}
@@ -79,6 +79,18 @@ bytes_of_line-raw place (byte ∷ bytes) later =
     let more : 1 + n ≡ suc n = omega arith in
     ap (λ k. map (λ (placed : PlacedByte). placed.byte) (take k (raw_line place (byte ∷ bytes) ++ later))) more
     ∙ ap (λ bs. byte ∷ bs) (bytes_of_line-raw place bytes later)
+
+-- the bytes before the end of a line, one at a time
+pub bytes_of_line-end : (byte : PlacedByte) (rest : List PlacedByte) → byte.ends_line ≡ true
+    → bytes_of_line (byte ∷ rest) ≡ []
+bytes_of_line-end byte rest ends = rw ends refl
+
+pub bytes_of_line-more : (byte : PlacedByte) (rest : List PlacedByte) → byte.ends_line ≡ false
+    → bytes_of_line (byte ∷ rest) ≡ byte.byte ∷ bytes_of_line rest
+bytes_of_line-more byte rest stays =
+    let n : ℕ = position_or_len (λ (placed : PlacedByte). placed.ends_line) rest in
+    let more : 1 + n ≡ suc n = omega arith in
+    rw (stays, more) refl
 
 -- passing bytes of a line
 pub drop-raw : (size : ℕ) (place : Place) (bytes : List ℕ) (later : List PlacedByte) → size ≤ length bytes
