@@ -1,6 +1,6 @@
 -- The next code of a text, a step at a time.
-use Rattle.std.proofs.Common.{◌≡◌, ℕ, suc, ◌+◌, ◌==◌, Bool, true, false, List, [], ◌∷◌, drop, Option, Some, refl, sym}
-use Rattle.std.proofs.Common.{ap, ◌∙◌, arith}
+use Rattle.std.proofs.Common.{◌≡◌, ℕ, ◌==◌, false, List, [], ◌∷◌, drop, Option, Some, refl, sym}
+use Rattle.std.proofs.Common.{ap, ◌∙◌}
 use Rattle.std.specs.List.{position_or_len}
 use Rattle.wb_base.specs.declared.places.Place.{Place}
 use Rattle.web_lex.specs.declared.codes.Code.{Code}
@@ -9,7 +9,7 @@ use Rattle.web_lex.specs.Codes.{code_of}
 use Rattle.web_lex.specs.Raw.{PlacedByte, place_of, bytes_of_line}
 use Rattle.web_lex.specs.SkipAhead.{Found, next_code, found_or}
 use Rattle.web_lex.specs.inner.Ahead.{first_byte, is_at_sign}
-use Rattle.web_lex.proofs.TextLemmas.{bytes_of_line-end, bytes_of_line-more}
+use Rattle.web_lex.proofs.TextLemmas.{passed-plain}
 
 -- a code that is not passed is found
 pub found_or-found : (value : Code) (place : Place) (rest : List PlacedByte) (further : Option Found)
@@ -58,24 +58,7 @@ next_code-byte : (byte : PlacedByte) (rest : List PlacedByte) → (byte.byte == 
 next_code-byte byte [] other = refl
 next_code-byte byte (next ∷ rest) other = rw other refl
 
--- and all bytes of a line before its first at sign
+-- and so are all bytes of a line before its first at sign
 pub next_code-plain : (text : List PlacedByte)
     → next_code (drop (position_or_len is_at_sign (bytes_of_line text)) text) ≡ next_code text
-next_code-plain [] = refl
-next_code-plain (byte ∷ rest) = by_end byte.ends_line refl (next_code-plain rest)
-  where
-    n : ℕ
-    n = position_or_len is_at_sign (bytes_of_line rest)
-    by_sign : (b : Bool) → (byte.byte == 64) ≡ b → next_code (drop n rest) ≡ next_code rest
-        → next_code (drop (position_or_len is_at_sign (byte.byte ∷ bytes_of_line rest)) (byte ∷ rest))
-        ≡ next_code (byte ∷ rest)
-    by_sign true sign others = rw sign refl
-    by_sign false other others =
-        let more : 1 + n ≡ suc n = omega arith in
-        rw (other, more) (others ∙ sym (next_code-byte byte rest other))
-    by_end : (b : Bool) → byte.ends_line ≡ b → next_code (drop n rest) ≡ next_code rest
-        → next_code (drop (position_or_len is_at_sign (bytes_of_line (byte ∷ rest))) (byte ∷ rest))
-        ≡ next_code (byte ∷ rest)
-    by_end true ends others = rw (bytes_of_line-end byte rest ends) refl
-    by_end false stays others =
-        rw (bytes_of_line-more byte rest stays) (by_sign (byte.byte == 64) refl others)
+next_code-plain = passed-plain is_at_sign next_code next_code-byte
