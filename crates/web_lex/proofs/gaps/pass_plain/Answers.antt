@@ -1,7 +1,3 @@
-use Rattle.std.proofs.Common.{ap, ◌∙◌, drop}
-use Rattle.std.specs.List.{position_or_len}
-use Rattle.web_lex.specs.Gaps.{after_comment}
-use Rattle.web_lex.specs.inner.Ahead.{matters_in_comment}
 use Rattle.web_lex.proofs.CommentLemmas.{after_comment-plain}
 use Rattle.web_lex.proofs.gaps.pass_plain.Goals as goal
 
