@@ -1,5 +1,6 @@
 -- Statements that call a procedure (ISO 7185, 6.8.2.3 and 6.9, in this project's profile).
-use Rattle.std.specs.Prelude.{ℕ, ◌&&◌, ◌||◌, nat_lt, Bool, true, false, not, if◌then◌else◌, List, [], ◌∷◌, ◌++◌, length, map}
+use Rattle.std.specs.Prelude.{ℕ, ◌&&◌, ◌||◌, nat_lt, Bool, true, false, not, if◌then◌else◌, List, [], ◌∷◌, ◌++◌}
+use Rattle.std.specs.Prelude.{length, map}
 use Rattle.std.specs.Prelude.{codes, Option, Some, None, option_and_then, is_some}
 use Rattle.wb_base.specs.declared.faults.TheConstants.{UNKNOWN_NAME, WRONG_TYPE, FILE_RULE, READING_NUMBERS}
 use Rattle.pas_tokens.specs.Cutting.{Wrong, wrong}
@@ -14,7 +15,8 @@ use Rattle.pas_types.specs.Typed.{FileStep, Variable, Slot, Value, Place, Item, 
 use Rattle.pas_types.specs.Scopes.{Entity, routine, file_step, procedure, unclear, Procedure, read, readln, write}
 use Rattle.pas_types.specs.Scopes.{writeln, uexit, Scopes, standard_file}
 use Rattle.pas_types.specs.TypeForms.{undoubled}
-use Rattle.pas_types.specs.Expressions.{type_of, type_of_place, is_of, only, are_compatible, place_in, file_in, file_only}
+use Rattle.pas_types.specs.Expressions.{type_of, type_of_place, is_of, only, are_compatible, place_in, file_in}
+use Rattle.pas_types.specs.Expressions.{file_only}
 use Rattle.pas_types.specs.Expressions.{compatible_with, Demand, Bare, bare, Argument, met, called, not_called, given}
 use Rattle.pas_types.specs.Expressions.{demands_of, passed_to, heading_of, first_value, value_of}
 

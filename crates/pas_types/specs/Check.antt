@@ -1,15 +1,14 @@
 -- What checking a program gives: its typed program, or the first fault of its rules in the order of the text (ISO 7185,
 -- 6.10, in this project's profile).
-use Rattle.std.specs.Prelude.{ℕ, ◌&&◌, Bool, true, false, not, if◌then◌else◌, List, [], ◌∷◌, ◌++◌, map, filter}
-use Rattle.std.specs.Prelude.{Option, Some, None, is_some, option_to_list, flat_map, Result, Ok, Err, position, All}
+use Rattle.std.specs.Prelude.{ℕ, ◌&&◌, Bool, true, false, not, List, [], ◌∷◌, ◌++◌, map, filter}
+use Rattle.std.specs.Prelude.{Option, Some, None, is_some, option_to_list, flat_map, position}
 use Rattle.std.specs.Str.{bytes_eq}
 use Rattle.wb_base.specs.declared.faults.Fault.{Fault}
 use Rattle.wb_base.specs.declared.faults.TheConstants.{UNKNOWN_NAME, DUPLICATE_NAME, FILE_RULE}
 use Rattle.pas_tokens.specs.Cutting.{Wrong, wrong}
-use Rattle.pas_syntax.specs.Tree as tree
 use Rattle.pas_syntax.specs.Tree.{Ident, ProgramParameters, Program}
 use Rattle.pas_syntax.specs.Words.{program_words}
-use Rattle.pas_types.specs.Marks.{Marks, no_token, quiet, shows, joined, listed, unless, first_fault, both, known}
+use Rattle.pas_types.specs.Marks.{Marks, no_token, quiet, shows, joined, listed, unless, first_fault, both}
 use Rattle.pas_types.specs.Types.{text, Table, component_of}
 use Rattle.pas_types.specs.Typed.{declared, Variable, global, TypedProgram}
 use Rattle.pas_types.specs.Scopes.{Entity, variable, Known, Outer, standard_names, contains, idents_of, entity_in}

@@ -5,7 +5,6 @@ use Rattle.wb_base.specs.declared.faults.TheConstants.{UNKNOWN_NAME, WRONG_TYPE,
 use Rattle.wb_base.specs.declared.faults.TheConstants.{RESULT_NEVER_ASSIGNED, FILE_RULE, DUPLICATE_NAME}
 use Rattle.pas_tokens.specs.Cutting.{wrong}
 use Rattle.pas_tokens.specs.Tokens.{fault_in}
-use Rattle.pas_syntax.specs.declared.operators.Adding.TheVariants as adding
 use Rattle.pas_syntax.specs.Tree as tree
 use Rattle.pas_syntax.specs.Tree.{Ident, Numeral, Lined, Separated, Idents, Constant, TypeForm, Expr, Factor, Plain}
 use Rattle.pas_syntax.specs.Tree.{Statement, Statements, Compound, Rows, VariableRow, Routine, Program}
@@ -103,7 +102,8 @@ label_does_not_stand = refl
 -- var a:array[3..1] of char;begin end.
 abbrev array_form : ℕ → ℕ → TypeForm
 array_form low high =
-    tree.array None 1 1 (alone (tree.range (tree.number None (number_of low)) 1 (tree.number None (number_of high)))) 1 1
+    tree.array None 1 1
+    (alone (tree.range (tree.number None (number_of low)) 1 (tree.number None (number_of high)))) 1 1
     (tree.simple (tree.simple_named (name_of (codes "char"))))
 
 abbrev with_variable : TypeForm → Statements → Program

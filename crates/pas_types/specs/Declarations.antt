@@ -7,7 +7,7 @@ use Rattle.wb_base.specs.declared.faults.TheConstants.{CONSTANT_OUT_OF_RANGE, TO
 use Rattle.pas_tokens.specs.Cutting.{Wrong, wrong}
 use Rattle.pas_syntax.specs.Tree.{Ident, Numeral, Separated, Labels, ConstantRow, TypeRow, VariableRow, Rows}
 use Rattle.pas_types.specs.declared.limits.TheConstants.{CELL_LIMIT, ROUTINE_CELL_LIMIT, GREATEST_LABEL}
-use Rattle.pas_types.specs.Marks.{Marks, no_token, quiet, shows, joined, listed, unless, Judged, judged, known, checked}
+use Rattle.pas_types.specs.Marks.{Marks, no_token, quiet, shows, joined, listed, unless, known, checked}
 use Rattle.pas_types.specs.Types.{PasType, Table, component_of, cells_of}
 use Rattle.pas_types.specs.Typed.{Mode, declared, by_name, Variable, Home, global, local}
 use Rattle.pas_types.specs.Scopes.{Entity, constant, type, variable, unclear, Named, names, names_of, Outer, Inner}

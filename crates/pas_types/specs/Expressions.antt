@@ -14,13 +14,13 @@ use Rattle.pas_syntax.specs.declared.operators.Adding.TheVariants as adding
 use Rattle.pas_syntax.specs.declared.operators.Relation.{Relation}
 use Rattle.pas_syntax.specs.Tree as tree
 use Rattle.pas_syntax.specs.Tree.{Ident, Expr, Sum, Term, Factor, Exprs}
-use Rattle.pas_types.specs.Marks.{Marks, no_token, quiet, shows, at_first, at_last, with_behind, joined, listed, unless}
+use Rattle.pas_types.specs.Marks.{Marks, no_token, quiet, shows, at_first, with_behind, joined, listed, unless}
 use Rattle.pas_types.specs.Marks.{Judged, judged, means, refuses, known, both, checked}
-use Rattle.pas_types.specs.Types.{Base, integer, char, boolean, same_base, Range, PasType, whole, text, same_type}
+use Rattle.pas_types.specs.Types.{Base, integer, char, boolean, same_base, PasType, whole, text, same_type}
 use Rattle.pas_types.specs.Types.{Field, Elements, Table, range_of, component_of, elements_of, fields_of}
 use Rattle.pas_types.specs.Typed as typed
 use Rattle.pas_types.specs.Typed.{Function, FileTest, Mode, by_name, Variable, Slot, Value, Place, Passed, Heading}
-use Rattle.pas_types.specs.Scopes.{Entity, constant, variable, routine, function, file_test, unclear, Known, Scopes}
+use Rattle.pas_types.specs.Scopes.{Entity, constant, variable, routine, function, file_test, unclear, Scopes}
 use Rattle.pas_types.specs.Scopes.{entity_of, standard_file}
 use Rattle.pas_types.specs.TypeForms as forms
 

@@ -7,7 +7,7 @@ use Rattle.pas_tokens.specs.Cutting.{Wrong, wrong}
 use Rattle.pas_syntax.specs.Tree as tree
 use Rattle.pas_syntax.specs.Tree.{Plain, Statement, Statements, Elements, Others}
 use Rattle.pas_types.specs.declared.limits.TheConstants.{GREATEST_LABEL}
-use Rattle.pas_types.specs.Marks.{quiet, unless, Judged, judged, means, refuses}
+use Rattle.pas_types.specs.Marks.{unless, Judged, means, refuses}
 use Rattle.pas_types.specs.Typed as typed
 use Rattle.pas_types.specs.Scopes.{Outer, Inner, Scopes}
 
@@ -82,7 +82,7 @@ abbrev pub label_faults : Scopes → Spot → List ℕ → ℕ → List Wrong
 label_faults scopes spot before label =
     if nat_lt GREATEST_LABEL label then wrong CONSTANT_OUT_OF_RANGE ∷ []
     else unless (is_in_list spot && has_label (block_labels scopes) label && not (has_label before label))
-        (wrong WRONG_LABEL)
+    (wrong WRONG_LABEL)
 
 -- whether a label is the last one of the program
 abbrev pub is_last : Option ℕ → ℕ → Bool

@@ -1,8 +1,9 @@
 -- What the rules of Pascal find in a part of a text: the faults that each of its tokens shows, and what the part means
 -- where it shows none. The first token with a fault, and the lowest fault at it, is told: this project's own.
-use Rattle.std.specs.Prelude.{ℕ, nat_lt, Bool, true, false, if◌then◌else◌, List, [], ◌∷◌, ◌++◌, fold, Option, Some, None}
+use Rattle.std.specs.Prelude.{nat_lt, Bool, true, false, if◌then◌else◌, List, [], ◌∷◌, ◌++◌, fold, Option, Some}
+use Rattle.std.specs.Prelude.{None}
 use Rattle.wb_base.specs.declared.faults.Fault.{Fault}
-use Rattle.pas_tokens.specs.Cutting.{Wrong, wrong}
+use Rattle.pas_tokens.specs.Cutting.{Wrong}
 use Rattle.pas_tokens.specs.Tokens.{fault_in}
 use Rattle.pas_syntax.specs.Words.{Word}
 

@@ -1,6 +1,6 @@
 -- Routines (ISO 7185, 6.6, in this project's profile): headings, `forward`, and blocks.
-use Rattle.std.specs.Prelude.{ℕ, zero, suc, ◌==◌, ◌&&◌, ◌||◌, nat_le, nat_lt, Bool, true, false, not, if◌then◌else◌}
-use Rattle.std.specs.Prelude.{List, [], ◌∷◌, ◌++◌, length, map, Option, Some, None, is_some, is_none, option_and_then}
+use Rattle.std.specs.Prelude.{ℕ, zero, suc, ◌&&◌, ◌||◌, nat_lt, Bool, true, false, not, if◌then◌else◌}
+use Rattle.std.specs.Prelude.{List, [], ◌∷◌, ◌++◌, length, Option, Some, None, is_some, is_none, option_and_then}
 use Rattle.std.specs.Prelude.{slice_get}
 use Rattle.wb_base.specs.declared.faults.TheConstants.{DUPLICATE_NAME, WRONG_TYPE, WRONG_LABEL, TOO_LARGE}
 use Rattle.wb_base.specs.declared.faults.TheConstants.{RESULT_NEVER_ASSIGNED}
@@ -11,16 +11,16 @@ use Rattle.pas_syntax.specs.Tree.{Compound, Routine}
 use Rattle.pas_types.specs.declared.limits.TheConstants.{ROUTINE_LIMIT}
 use Rattle.pas_types.specs.Marks.{Marks, no_token, quiet, shows, at_first, joined, unless, Judged, judged, known, both}
 use Rattle.pas_types.specs.Marks.{checked}
-use Rattle.pas_types.specs.Types.{PasType, Table, range_of}
+use Rattle.pas_types.specs.Types.{range_of}
 use Rattle.pas_types.specs.Typed as typed
 use Rattle.pas_types.specs.Typed.{Mode, by_value, by_name, Variable, Heading, Body, local}
-use Rattle.pas_types.specs.Scopes.{Entity, routine, unclear, names, names_of, Known, Outer, Inner, entity_in}
+use Rattle.pas_types.specs.Scopes.{Entity, routine, names_of, Known, Outer, Inner, entity_in}
 use Rattle.pas_types.specs.Scopes.{contains, spellings_of, new_names}
 use Rattle.pas_types.specs.TypeForms.{Made, maybe_quiet, type_named}
 use Rattle.pas_types.specs.Labels.{has_label, labels_in_list, labels_of_list}
 use Rattle.pas_types.specs.Statements.{statements_of}
 use Rattle.pas_types.specs.Declarations.{declared_labels, label_marks, taken, with_name, named_slots, local_only}
-use Rattle.pas_types.specs.Declarations.{with_locals, routine_scopes, InnerStage, local_rows}
+use Rattle.pas_types.specs.Declarations.{with_locals, routine_scopes, local_rows}
 
 -- parameters
 
@@ -85,10 +85,6 @@ formals_of outer inner (Some parameters) =
 pub data Sort : Type 0 where
   procedure : Sort
   function : Sort
-
-abbrev pub is_function : Sort → Bool
-is_function procedure = false
-is_function function = true
 
 -- the parts of a heading
 pub record Head : Type 0 where
@@ -178,7 +174,8 @@ second_heading outer head number =
 
 -- the routine of this sort that a name stands for, if its body is still to come
 abbrev pub is_of_sort : Sort → Heading → Bool
-is_of_sort sort heading = (is_function sort && is_some heading.result) || (not (is_function sort) && is_none heading.result)
+is_of_sort function heading = is_some heading.result
+is_of_sort procedure heading = is_none heading.result
 
 abbrev pub awaited_known : Sort → ℕ → Known → Option ℕ
 awaited_known sort number found =

@@ -1,12 +1,13 @@
 -- Scopes (ISO 7185, 6.2): lists of names in the order of their declarations. The required names lie outside the
 -- program's scope, and that outside each routine's.
-use Rattle.std.specs.Prelude.{ℕ, suc, ◌==◌, ◌&&◌, nat_le, Bool, true, false, not, List, [], ◌∷◌, ◌++◌, length, map, find}
+use Rattle.std.specs.Prelude.{ℕ, Bool, true, false, not, List, [], ◌∷◌, ◌++◌, map}
+use Rattle.std.specs.Prelude.{find}
 use Rattle.std.specs.Prelude.{codes, ℤ, pos, if◌then◌else◌, Option, Some, None, option_map, option_and_then}
 use Rattle.std.specs.Str.{bytes_eq}
 use Rattle.std.specs.List.{list_any}
 use Rattle.wb_base.specs.declared.faults.TheConstants.{DUPLICATE_NAME}
 use Rattle.pas_tokens.specs.declared.limits.TheConstants.{GREATEST_NUMBER}
-use Rattle.pas_tokens.specs.Cutting.{Wrong, wrong}
+use Rattle.pas_tokens.specs.Cutting.{wrong}
 use Rattle.pas_syntax.specs.Tree.{Ident, Idents}
 use Rattle.pas_types.specs.Marks.{Marks, shows, unless, listed}
 use Rattle.pas_types.specs.Types.{Base, integer, char, boolean, PasType, whole, text, Table}

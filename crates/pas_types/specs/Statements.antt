@@ -247,7 +247,8 @@ module _ (scopes : Scopes) where
         let values = constants_of scopes base (constants_in scopes elements) constants in
         let found = statement_of elsewhere around (before ++ labels_in_elements elements) s in
         judged (joined (arms.marks ∷ quiet ∷ values.marks ∷ quiet ∷ found.marks ∷ []))
-        (known_of (both (λ others constant statement. typed.more_arms others constant statement) arms.value values.value)
+        (known_of (both (λ others numbers statement. typed.more_arms others numbers statement) arms.value
+        values.value)
         found.value)
 
     -- what stands behind the elements makes a case of a selector and arms

@@ -13,11 +13,12 @@ use Rattle.pas_syntax.specs.Tree as tree
 use Rattle.pas_syntax.specs.Tree.{Ident, Lined, Behind, Separated, Idents, Constant, Simple, TypeForm, Fields}
 use Rattle.pas_syntax.specs.Parse.{left_out}
 use Rattle.pas_types.specs.declared.limits.TheConstants.{CELL_LIMIT}
-use Rattle.pas_types.specs.Marks.{Marks, no_token, quiet, shows, at_last, joined, unless, Judged, judged, means, refuses}
+use Rattle.pas_types.specs.Marks.{Marks, no_token, quiet, joined, unless, Judged, judged, means}
+use Rattle.pas_types.specs.Marks.{refuses}
 use Rattle.pas_types.specs.Marks.{known, both, checked}
 use Rattle.pas_types.specs.Types.{Base, integer, char, same_base, Range, PasType, whole, row, Field, Structure}
-use Rattle.pas_types.specs.Types.{subrange, array, fields, file, TypeRow, Table, range_of, component_of, cells_of}
-use Rattle.pas_types.specs.Types.{cells_in, is_within}
+use Rattle.pas_types.specs.Types.{subrange, array, fields, file, Table, range_of, component_of, cells_of}
+use Rattle.pas_types.specs.Types.{cells_in}
 use Rattle.pas_types.specs.Scopes.{Entity, constant, type, unclear, Scopes, entity_of, spellings_of}
 use Rattle.pas_types.specs.Scopes.{new_names}
 
