@@ -1,7 +1,7 @@
 -- What checking a program gives: its typed program, or the first fault of its rules in the order of the text (ISO 7185,
 -- 6.10, in this project's profile).
-use Rattle.std.specs.Prelude.{ℕ, ◌&&◌, Bool, true, false, not, List, [], ◌∷◌, ◌++◌, map, filter}
-use Rattle.std.specs.Prelude.{Option, Some, None, is_some, option_to_list, flat_map, position}
+use Rattle.std.specs.Prelude.{◌≡◌, ℕ, ◌&&◌, Bool, true, false, not, List, [], ◌∷◌, ◌++◌, map, filter}
+use Rattle.std.specs.Prelude.{Option, Some, None, option_to_list, flat_map, position}
 use Rattle.std.specs.Str.{bytes_eq}
 use Rattle.wb_base.specs.declared.faults.Fault.{Fault}
 use Rattle.wb_base.specs.declared.faults.TheConstants.{UNKNOWN_NAME, DUPLICATE_NAME, FILE_RULE}
@@ -9,7 +9,8 @@ use Rattle.pas_tokens.specs.Cutting.{Wrong, wrong}
 use Rattle.pas_syntax.specs.Tree.{Ident, ProgramParameters, Program}
 use Rattle.pas_syntax.specs.Words.{program_words}
 use Rattle.pas_types.specs.Marks.{Marks, no_token, quiet, shows, joined, listed, unless, first_fault, both}
-use Rattle.pas_types.specs.Types.{text, Table, component_of}
+use Rattle.pas_types.specs.Types.{text, Table}
+use Rattle.pas_types.specs.TypeForms.{is_lawful_file}
 use Rattle.pas_types.specs.Typed.{declared, Variable, global, TypedProgram}
 use Rattle.pas_types.specs.Scopes.{Entity, variable, Known, Outer, standard_names, contains, idents_of, entity_in}
 use Rattle.pas_types.specs.Labels.{labels_of_list, label_at_end}
@@ -45,9 +46,9 @@ start program =
       routines = [];
     }
 
--- each parameter of a program is a variable of a file type in its scope
+-- each parameter of a program is a variable of a lawful file type in its scope
 abbrev pub is_file_variable : Table → Entity → Bool
-is_file_variable table (variable slot) = is_some (component_of table slot.variable.type)
+is_file_variable table (variable slot) = is_lawful_file table slot.variable.type
 is_file_variable table entity = false
 
 abbrev pub parameter_faults : Table → Option Entity → List Wrong
@@ -79,10 +80,10 @@ abbrev pub file_numbers : List Variable → List (List ℕ) → List ℕ
 file_numbers globals parameters =
     flat_map (λ name. option_to_list (position (λ found. bytes_eq found.name name) globals)) parameters
 
--- what a program shows at its tokens, and what it means
+-- what a program shows at its tokens, and what it means if they show no fault
 pub record Checked : Type 0 where
   pub marks : Marks
-  pub program : Option TypedProgram
+  pub meaning : Option TypedProgram
 
 unfoldable pub checked_of : Program → Checked
 checked_of program =
@@ -96,7 +97,7 @@ checked_of program =
       marks = joined (quiet ∷ quiet ∷ parameter_marks outer program.parameters ∷ quiet ∷ label_marks program.labels
           ∷ constants.marks ∷ types.marks ∷ variables.marks ∷ routines.marks ∷ quiet ∷ list.marks
           ∷ shows (body_missing outer.routines ++ label_missing outer.labels program.body) ∷ quiet ∷ quiet ∷ []);
-      program = both (λ bodies statements. record {
+      meaning = both (λ bodies statements. record {
         types = outer.types;
         globals = outer.globals;
         files = file_numbers outer.globals outer.parameters;
@@ -111,6 +112,9 @@ checked_of program =
 abbrev pub fault_of : Program → Option Fault
 fault_of program = first_fault (program_words program) (checked_of program).marks.tokens
 
--- the typed program of one without a fault
-abbrev pub typed_of : Program → Option TypedProgram
-typed_of program = (checked_of program).program
+-- what checking a program gives: it means this, or has this fault
+abbrev pub Means : Program → TypedProgram → Type 0
+Means program meaning = (fault_of program ≡ None) × ((checked_of program).meaning ≡ Some meaning)
+
+abbrev pub IsFaultOf : Program → Fault → Type 0
+IsFaultOf program fault = fault_of program ≡ Some fault

@@ -2,7 +2,7 @@
 use Rattle.std.specs.Prelude.{◌≡◌, ℕ, pos, List, [], ◌∷◌, codes, Option, Some, None, option_map, refl}
 use Rattle.wb_base.specs.declared.faults.Fault.{Fault}
 use Rattle.wb_base.specs.declared.faults.TheConstants.{UNKNOWN_NAME, WRONG_TYPE, CONSTANT_OUT_OF_RANGE, WRONG_LABEL}
-use Rattle.wb_base.specs.declared.faults.TheConstants.{RESULT_NEVER_ASSIGNED, FILE_RULE, DUPLICATE_NAME}
+use Rattle.wb_base.specs.declared.faults.TheConstants.{RESULT_NEVER_ASSIGNED, FILE_RULE, DUPLICATE_NAME, TOO_LARGE}
 use Rattle.pas_tokens.specs.Cutting.{wrong}
 use Rattle.pas_tokens.specs.Tokens.{fault_in}
 use Rattle.pas_syntax.specs.Tree as tree
@@ -11,7 +11,7 @@ use Rattle.pas_syntax.specs.Tree.{Statement, Statements, Compound, Rows, Variabl
 use Rattle.pas_syntax.specs.Words.{program_words}
 use Rattle.pas_types.specs.Types as types
 use Rattle.pas_types.specs.Typed as typed
-use Rattle.pas_types.specs.Check.{checked_of, fault_of, typed_of}
+use Rattle.pas_types.specs.Check.{checked_of, fault_of}
 
 -- names, numbers and what is made of them, all in line 1
 abbrev name_of : List ℕ → Ident
@@ -68,9 +68,9 @@ variable_row bytes form = record { names = alone (name_of bytes); colon = 1; for
 abbrev shows : ℕ → Option Fault
 shows code = Some (fault_in 1 (wrong code))
 
--- the statements of the typed program
+-- the statements of what a program means
 abbrev statements_of : Program → Option typed.Statements
-statements_of program = option_map (λ found. found.statements) (typed_of program)
+statements_of program = option_map (λ found. found.statements) (checked_of program).meaning
 
 -- begin if true then else end.
 abbrev if_true : Program
@@ -199,3 +199,18 @@ pub output_declared : fault_of (record (program_of (one tree.empty))
     ≡ shows DUPLICATE_NAME
 unfolding checked_of program_words
 output_declared = refl
+
+-- var a:array[1..3] of text;begin end., and with more elements than the limit: the lower of two faults of a token
+abbrev array_of_text : ℕ → TypeForm
+array_of_text high =
+    tree.array None 1 1
+    (alone (tree.range (tree.number None (number_of 1)) 1 (tree.number None (number_of high)))) 1 1
+    (tree.simple (tree.simple_named (name_of (codes "text"))))
+
+pub array_of_files : fault_of (with_variable (array_of_text 3) (one tree.empty)) ≡ shows FILE_RULE
+unfolding checked_of program_words
+array_of_files = refl
+
+pub too_many_files : fault_of (with_variable (array_of_text 4194305) (one tree.empty)) ≡ shows TOO_LARGE
+unfolding checked_of program_words
+too_many_files = refl

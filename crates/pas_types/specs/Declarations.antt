@@ -7,7 +7,7 @@ use Rattle.wb_base.specs.declared.faults.TheConstants.{CONSTANT_OUT_OF_RANGE, TO
 use Rattle.pas_tokens.specs.Cutting.{Wrong, wrong}
 use Rattle.pas_syntax.specs.Tree.{Ident, Numeral, Separated, Labels, ConstantRow, TypeRow, VariableRow, Rows}
 use Rattle.pas_types.specs.declared.limits.TheConstants.{CELL_LIMIT, ROUTINE_CELL_LIMIT, GREATEST_LABEL}
-use Rattle.pas_types.specs.Marks.{Marks, no_token, quiet, shows, joined, listed, unless, known, checked}
+use Rattle.pas_types.specs.Marks.{Marks, no_token, quiet, shows, joined, listed, unless, known, noted}
 use Rattle.pas_types.specs.Types.{PasType, Table, component_of, cells_of}
 use Rattle.pas_types.specs.Typed.{Mode, declared, by_name, Variable, Home, global, local}
 use Rattle.pas_types.specs.Scopes.{Entity, constant, type, variable, unclear, Named, names, names_of, Outer, Inner}
@@ -154,7 +154,7 @@ global_row outer found =
     let spellings = spellings_of found.names in
     record {
       marks = joined (new_names (taken outer) found.names ∷ quiet
-          ∷ (checked (global_only outer spellings) form).marks ∷ quiet ∷ []);
+          ∷ (noted (global_only outer spellings) form).marks ∷ quiet ∷ []);
       outer = with_globals spellings form.value outer;
     }
 
@@ -193,7 +193,7 @@ local_row outer table inner found =
     let spellings = spellings_of found.names in
     record {
       marks = joined (new_names (names_of inner.names) found.names ∷ quiet
-          ∷ (checked (local_only inner declared spellings) form).marks ∷ quiet ∷ []);
+          ∷ (noted (local_only inner declared spellings) form).marks ∷ quiet ∷ []);
       table = types_behind table form.value;
       inner = with_locals declared spellings (known (λ what. what.type) form.value) inner;
     }

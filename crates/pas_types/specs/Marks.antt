@@ -107,6 +107,14 @@ checked_by faults marks (Some value) = kept_by marks value (faults value)
 abbrev pub checked : {A : Type 0} → (A → List Wrong) → Judged A → Judged A
 checked faults part = checked_by faults part.marks part.value
 
+-- a part that shows these faults at its last token too, and stays known
+abbrev pub faults_if : {A : Type 0} → (A → List Wrong) → Option A → List Wrong
+faults_if faults None = []
+faults_if faults (Some value) = faults value
+
+abbrev pub noted : {A : Type 0} → (A → List Wrong) → Judged A → Judged A
+noted faults part = judged (at_last (faults_if faults part.value) part.marks) part.value
+
 -- the lowest of faults, of which this one is the first
 abbrev pub lowest : Wrong → List Wrong → Wrong
 lowest refusal more = fold (λ low next. if nat_lt next.code low.code then next else low) refusal more

@@ -10,7 +10,7 @@ use Rattle.pas_syntax.specs.Tree.{Ident, Behind, Idents, TypeName, Labels, Varia
 use Rattle.pas_syntax.specs.Tree.{Compound, Routine}
 use Rattle.pas_types.specs.declared.limits.TheConstants.{ROUTINE_LIMIT}
 use Rattle.pas_types.specs.Marks.{Marks, no_token, quiet, shows, at_first, joined, unless, Judged, judged, known, both}
-use Rattle.pas_types.specs.Marks.{checked}
+use Rattle.pas_types.specs.Marks.{checked, noted}
 use Rattle.pas_types.specs.Types.{range_of}
 use Rattle.pas_types.specs.Typed as typed
 use Rattle.pas_types.specs.Typed.{Mode, by_value, by_name, Variable, Heading, Body, local}
@@ -47,7 +47,7 @@ parameter_of outer inner (tree.parameters var idents colon found) =
     let form = type_in_heading outer inner found in
     record {
       marks = joined (maybe_quiet var ∷ new_names (names_of inner.names) idents ∷ quiet
-          ∷ (checked (local_only inner (mode_of var) spellings) form).marks ∷ []);
+          ∷ (noted (local_only inner (mode_of var) spellings) form).marks ∷ []);
       inner = with_locals (mode_of var) spellings (known (λ what. what.type) form.value) inner;
       is_clear = is_some form.value;
     }

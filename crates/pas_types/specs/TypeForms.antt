@@ -15,7 +15,7 @@ use Rattle.pas_syntax.specs.Parse.{left_out}
 use Rattle.pas_types.specs.declared.limits.TheConstants.{CELL_LIMIT}
 use Rattle.pas_types.specs.Marks.{Marks, no_token, quiet, joined, unless, Judged, judged, means}
 use Rattle.pas_types.specs.Marks.{refuses}
-use Rattle.pas_types.specs.Marks.{known, both, checked}
+use Rattle.pas_types.specs.Marks.{known, both, checked, noted}
 use Rattle.pas_types.specs.Types.{Base, integer, char, same_base, Range, PasType, whole, row, Field, Structure}
 use Rattle.pas_types.specs.Types.{subrange, array, fields, file, Table, range_of, component_of, cells_of}
 use Rattle.pas_types.specs.Types.{cells_in}
@@ -83,7 +83,8 @@ constant_of scopes (tree.text quoted) = char_in (undoubled quoted.text)
 
 -- types
 
--- what a type expression means: a type, and the table with what it made
+-- what a type expression means: a type, and the table with what it made. One that breaks a rule on files or passes a
+-- limit is still known, so that each fault of its last token is seen
 pub record Made : Type 0 where
   pub type : PasType
   pub table : Table
@@ -195,8 +196,8 @@ within_limit found = unless (nat_le (cells_of found.table found.type) CELL_LIMIT
 
 abbrev pub array_of : Option ℕ → Judged Indexes → Judged Made → Judged Made
 array_of packed indexes element =
-    let part = checked no_file element in
-    checked within_limit (judged
+    let part = noted no_file element in
+    noted within_limit (judged
     (joined (maybe_quiet packed ∷ quiet ∷ quiet ∷ indexes.marks ∷ quiet ∷ quiet ∷ part.marks ∷ []))
     (both (λ found last. arrays last.table found.ranges last.type) indexes.value part.value))
 
@@ -210,12 +211,20 @@ abbrev pub is_component : Table → PasType → Bool
 is_component table (whole char) = true
 is_component table found = is_byte_range (range_of table found)
 
+-- whether a type is a lawful file
+abbrev pub has_component : Table → Option PasType → Bool
+has_component table None = false
+has_component table (Some component) = is_component table component
+
+abbrev pub is_lawful_file : Table → PasType → Bool
+is_lawful_file table found = has_component table (component_of table found)
+
 abbrev pub component_only : Made → List Wrong
 component_only part = unless (is_component part.table part.type) (wrong FILE_RULE)
 
 abbrev pub file_of : Option ℕ → Judged Made → Judged Made
 file_of packed component =
-    let part = checked component_only component in
+    let part = noted component_only component in
     judged (joined (maybe_quiet packed ∷ quiet ∷ quiet ∷ part.marks ∷ []))
     (known (λ found. made found.table (file found.type)) part.value)
 
@@ -239,13 +248,13 @@ with_fields names before found = record {
 -- ids ":" type, behind other fields
 abbrev pub group_of : Marks → Judged Group → List (List ℕ) → Idents → Judged Made → Judged Group
 group_of separator before taken idents found =
-    let part = checked no_file found in
+    let part = noted no_file found in
     judged (joined (before.marks ∷ separator ∷ new_names taken idents ∷ quiet ∷ part.marks ∷ []))
     (both (with_fields (spellings_of idents)) before.value part.value)
 
 abbrev pub record_of : Option ℕ → Judged Group → Option ℕ → Judged Made
 record_of packed group semicolon =
-    checked within_limit (judged
+    noted within_limit (judged
     (joined (maybe_quiet packed ∷ quiet ∷ group.marks ∷ maybe_quiet semicolon ∷ quiet ∷ []))
     (known (λ found. made found.table (fields found.fields)) group.value))
 
