@@ -33,47 +33,47 @@ use Rattle.pas_meaning.proofs.OnwardLemmas.{goes_change_file, goes_reset, get_ke
 use Rattle.pas_meaning.proofs.OnwardLemmas.{goes_rewrite, goes_append, goes_put, onward_same}
 use Rattle.pas_meaning.specs.FileSteps.{change_file}
 
-goes_on : (flow : Flow) {rest : Doing Store Flow} → Goes rest → Goes (run.go_on flow rest)
+pub goes_on : (flow : Flow) {rest : Doing Store Flow} → Goes rest → Goes (run.go_on flow rest)
 goes_on run.next rest = rest
 goes_on (run.jump label) rest = goes_pure _
 
-goes_number : (datum : Datum) → Goes (number_of datum)
+pub goes_number : (datum : Datum) → Goes (number_of datum)
 goes_number datum = goes_answered _
 
 -- what is done with the number that an operand is
-goes_operand : {A : Type 0} {operand : Doing Store Datum} {next : ℤ → Doing Store A} → Goes operand
+pub goes_operand : {A : Type 0} {operand : Doing Store Datum} {next : ℤ → Doing Store A} → Goes operand
     → ((found : ℤ) → Goes (next found)) → Goes (operand >>= (λ datum. number_of datum >>= next))
 goes_operand goes next = goes_bind goes (λ datum. goes_bind (goes_number datum) next)
 
 module _ (table : Table) where
-  goes_read : (type : PasType) (spot : Spot) → Goes (run.read_at table type spot)
+  pub goes_read : (type : PasType) (spot : Spot) → Goes (run.read_at table type spot)
   goes_read type (run.part slot path) = search (goes_bind, goes_ask)
   goes_read type (run.window slot of_component) = search (goes_bind, goes_ask, goes_ask_file, goes_answered)
 
-  goes_set : (file byte : ℕ) → Goes {S = Store} (change_file file (files.buffer_set byte))
+  pub goes_set : (file byte : ℕ) → Goes {S = Store} (change_file file (files.buffer_set byte))
   goes_set file byte = goes_change_file file (files.buffer_set byte) (buffer_set_keeps byte)
 
-  goes_store : (type : PasType) (spot : Spot) (datum : Datum) → Goes (run.store_at table type spot datum)
+  pub goes_store : (type : PasType) (spot : Spot) (datum : Datum) → Goes (run.store_at table type spot datum)
   goes_store type (run.part slot path) datum = search (goes_bind, goes_answered, goes_change)
   goes_store type (run.window slot of_component) datum =
       search (goes_bind, goes_answered, goes_number, goes_ask, goes_set)
 
-goes_last : Goes {S = Store} {A = Flow} run.halt_at_last
+pub goes_last : Goes {S = Store} {A = Flow} run.halt_at_last
 goes_last =
     let last : World → Worldly Flow = λ world. stops (halted (run.status_at_last world.calls)) in
     goes_worldly {step = last} (record { each = λ world. tt })
 
 module _ (limit : Option ℕ) (program : TypedProgram) (below : Doings)
     (goes_below : (from : Entry) (s : Statement) → Goes (below from s)) where
-  goes_body : (body : Option Body) (arguments : List Argument) → Goes (run.body_run limit program below body arguments)
+  pub goes_body : (body : Option Body) (arguments : List Argument) → Goes (run.body_run limit program below body arguments)
   goes_body None arguments = goes_pure _
   goes_body (Some body) arguments =
       search (goes_bind, goes_then, goes_change, goes_below, goes_ask, goes_end_call, goes_pure) depth 12
 
-  goes_call : (routine : ℕ) (arguments : List Argument) → Goes (run.call limit program below routine arguments)
+  pub goes_call : (routine : ℕ) (arguments : List Argument) → Goes (run.call limit program below routine arguments)
   goes_call routine arguments = search (goes_then, goes_bind, goes_step, goes_begin, goes_body)
 
-  goes_test : (test : FileTest) (file : ℕ) → Goes (run.test_file limit program below test file)
+  pub goes_test : (test : FileTest) (file : ℕ) → Goes (run.test_file limit program below test file)
   goes_test typed.eof file = search (goes_bind, goes_ask_file, goes_pure)
   goes_test typed.eoln file = search (goes_bind, goes_ask_file, goes_pure)
 
@@ -140,38 +140,38 @@ module _ (limit : Option ℕ) (program : TypedProgram) (below : Doings)
         goes_bind (goes_arguments before) (λ arguments. goes_bind (goes_place place)
         (λ spot. goes_pure (arguments ++ run.meant spot ∷ [])))
 
-  goes_number_value : (found : Value) → Goes (run.number_value limit program below found)
+  pub goes_number_value : (found : Value) → Goes (run.number_value limit program below found)
   goes_number_value found = goes_bind (goes_value found) goes_number
 
   -- what is done with the file that a place means
-  goes_file : {A : Type 0} (place : Place) {next : ℕ → Doing Store A} → ((file : ℕ) → Goes (next file))
+  pub goes_file : {A : Type 0} (place : Place) {next : ℕ → Doing Store A} → ((file : ℕ) → Goes (next file))
       → Goes (run.spot_at limit program below place >>= (λ spot. ask (run.file_of spot) >>= next))
   goes_file place next = goes_bind (goes_place place) (λ spot. goes_bind (goes_ask (run.file_of spot)) next)
 
-  goes_get : (file : ℕ) → Goes {S = Store} (change_file file files.get)
+  pub goes_get : (file : ℕ) → Goes {S = Store} (change_file file files.get)
   goes_get file = goes_change_file file files.get get_keeps
 
-  goes_readln : (file : ℕ) → Goes {S = Store} (change_file file files.readln)
+  pub goes_readln : (file : ℕ) → Goes {S = Store} (change_file file files.readln)
   goes_readln file = goes_change_file file files.readln readln_keeps
 
-  goes_read_item : (type : PasType) (file : ℕ) (place : Place) → Goes (run.read_item limit program below type file place)
+  pub goes_read_item : (type : PasType) (file : ℕ) (place : Place) → Goes (run.read_item limit program below type file place)
   goes_read_item type file place =
       goes_bind (goes_ask_file file files.buffer_read) (λ byte.
       goes_bind (goes_answered (run.component program.types type byte)) (λ datum. goes_bind (goes_place place)
       (λ spot. goes_then (goes_store program.types (type_of_place place) spot datum) (goes_get file))))
 
-  goes_read_items : (type : PasType) (file : ℕ) (places : List Place)
+  pub goes_read_items : (type : PasType) (file : ℕ) (places : List Place)
       → Goes (run.read_items limit program below type file places)
   goes_read_items type file [] = goes_pure tt
   goes_read_items type file (place ∷ places) = goes_then (goes_read_item type file place) (goes_read_items type file places)
 
-  goes_field : (file : ℕ) (bytes_for : ℕ → List ℕ) (width : ℕ) (given : Option Value)
+  pub goes_field : (file : ℕ) (bytes_for : ℕ → List ℕ) (width : ℕ) (given : Option Value)
       → Goes (run.write_field limit program below file bytes_for width given)
   goes_field file bytes_for width None = goes_append file (files.written (bytes_for width))
   goes_field file bytes_for width (Some given) =
       goes_bind (goes_number_value given) (λ found. goes_append file (files.written_with bytes_for found))
 
-  goes_item : (file : ℕ) (item : Item) → Goes (run.write_item limit program below file item)
+  pub goes_item : (file : ℕ) (item : Item) → Goes (run.write_item limit program below file item)
   goes_item file (typed.number_item item width) =
       goes_bind (goes_number_value item) (λ found. goes_field file (λ field. files.number_in_field field found) 1 width)
   goes_item file (typed.char_item item width) =
@@ -180,56 +180,74 @@ module _ (limit : Option ℕ) (program : TypedProgram) (below : Doings)
   goes_item file (typed.string_item bytes width) =
       goes_field file (λ field. files.string_in_field field bytes) (length bytes) width
 
-  goes_items : (file : ℕ) (items : List Item) → Goes (run.write_items limit program below file items)
+  pub goes_items : (file : ℕ) (items : List Item) → Goes (run.write_items limit program below file items)
   goes_items file [] = goes_pure tt
   goes_items file (item ∷ items) = goes_then (goes_item file item) (goes_items file items)
 
-  goes_byte : (type : PasType) (file : ℕ) (item : Value) → Goes (run.write_byte limit program below type file item)
+  pub goes_byte : (type : PasType) (file : ℕ) (item : Value) → Goes (run.write_byte limit program below type file item)
   goes_byte type file item =
       goes_bind (goes_value item) (λ datum. goes_bind (goes_answered (store.fits program.types type datum))
       (λ checked. goes_bind (goes_number checked)
       (λ found. goes_then (goes_set program.types file (nat_abs found)) (goes_put file))))
 
-  goes_bytes : (type : PasType) (file : ℕ) (items : List Value)
+  pub goes_bytes : (type : PasType) (file : ℕ) (items : List Value)
       → Goes (run.write_bytes limit program below type file items)
   goes_bytes type file [] = goes_pure tt
   goes_bytes type file (item ∷ items) = goes_then (goes_byte type file item) (goes_bytes type file items)
 
-  goes_file_step : (step : FileStep) (file : ℕ) → Goes (run.file_step limit program below step file)
+  pub goes_file_step : (step : FileStep) (file : ℕ) → Goes (run.file_step limit program below step file)
   goes_file_step typed.reset file = goes_reset file
   goes_file_step typed.rewrite file = goes_rewrite file
   goes_file_step typed.get file = goes_get file
   goes_file_step typed.put file = goes_put file
 
-  goes_landed : (list : Statements) (entry : ℕ → Entry) (around : Statement) {rest : Doing Store Flow} (flow : Flow)
+  pub goes_landed : (list : Statements) (entry : ℕ → Entry) (around : Statement) {rest : Doing Store Flow} (flow : Flow)
       → Goes rest → Goes (run.landed limit program below list entry around rest flow)
   goes_landed list entry around run.next rest = rest
   goes_landed list entry around (run.jump label) rest =
       goes_if (run.has_label list label) (goes_then goes_step (goes_below (entry label) around)) (goes_pure _)
 
-  goes_until : (list : Statements) (test : Value) → Goes (run.until limit program below list test)
+  pub goes_again : (entry : Entry) (s : Statement) → Goes (take_step >> below entry s)
+  goes_again entry s = goes_then goes_step (goes_below entry s)
+
+  pub goes_until : (list : Statements) (test : Value) → Goes (run.until limit program below list test)
   goes_until list test =
       goes_bind (goes_number_value test)
-      (λ found. goes_if (is_true found) (goes_pure run.next) (goes_below run.start (typed.repeat list test)))
+      (λ found. goes_if (is_true found) (goes_pure run.next) (goes_again run.again (typed.repeat list test)))
 
-  goes_next_turn : (slot : Slot) (way : Way) (last : ℤ) (loop : Statement)
+  pub goes_behind_repeat : (list : Statements) (test : Value) (flow : Flow)
+      → Goes (run.behind_repeat limit program below list test flow)
+  goes_behind_repeat list test flow = goes_landed list run.at (typed.repeat list test) flow (goes_until list test)
+
+  pub goes_behind_while : (test : Value) (list : Statements) (flow : Flow)
+      → Goes (run.behind_while limit program below test list flow)
+  goes_behind_while test list flow =
+      goes_landed list run.at (typed.while test list) flow (goes_again run.again (typed.while test list))
+
+  pub goes_while_turn : (test : Value) (list : Statements) {body : Doing Store Flow} → Goes body
+      → Goes (run.while_turn limit program below test list body)
+  goes_while_turn test list body =
+      goes_bind (goes_number_value test)
+      (λ found. goes_if (is_true found) (goes_bind body (goes_behind_while test list)) (goes_pure run.next))
+
+  pub goes_next_turn : (slot : Slot) (way : Way) (last : ℤ) (loop : Statement)
       → Goes (run.next_turn limit program below slot way last loop)
   goes_next_turn slot way last loop =
       goes_bind (goes_ask (λ found. store.number_at (store.home_of slot found) found)) (λ found.
       goes_if (is_same found last) (goes_pure run.next)
       (goes_bind (goes_answered (within_maxint (run.next_value way found))) (λ following.
       goes_then (goes_store program.types slot.variable.type (run.part slot []) (holds following))
-      (goes_below (run.turn last) loop))))
+      (goes_again (run.turn last) loop))))
 
-  goes_behind_turn : (slot : Slot) (way : Way) (last : ℤ) (list : Statements) (loop : Statement) (flow : Flow)
+  pub goes_behind_turn : (slot : Slot) (way : Way) (last : ℤ) (list : Statements) (loop : Statement) (flow : Flow)
       → Goes (run.behind_turn limit program below slot way last list loop flow)
   goes_behind_turn slot way last list loop flow =
       goes_landed list (run.turn_at last) loop flow (goes_next_turn slot way last loop)
 
-  goes_forget : (slot : Slot) → Goes (change (run.forget slot) >> pure run.next)
+  pub goes_forget : (slot : Slot) → Goes (change (run.forget slot) >> pure run.next)
   goes_forget slot = goes_then (goes_change (run.forget slot)) (goes_pure run.next)
 
-  goes_for : (slot : Slot) (way : Way) (first last : ℤ) (turns : Doing Store Flow) → Goes turns
+  pub goes_for : (slot : Slot) (way : Way) (first last : ℤ) (turns : Doing Store Flow) → Goes turns
       → Goes (run.for_from limit program below slot way first last turns)
   goes_for slot way first last turns goes =
       goes_if (run.is_past way first last) (goes_forget slot)
@@ -238,32 +256,18 @@ module _ (limit : Option ℕ) (program : TypedProgram) (below : Doings)
       goes_then (goes_store program.types slot.variable.type (run.part slot []) low)
       (goes_bind goes (λ flow. goes_on flow (goes_forget slot))))))
 
-  goes_reads : (type : PasType) (file : ℕ) (places : List Place)
+  pub goes_reads : (type : PasType) (file : ℕ) (places : List Place)
       → Goes (run.read_items limit program below type file places >> pure run.next)
   goes_reads type file places = goes_then (goes_read_items type file places) (goes_pure run.next)
 
-  -- loops, by what their lists do
-  goes_while : (test : Value) (list : Statements) → Goes (run.items limit program below None list)
-      → Goes (run.statement limit program below run.start (typed.while test list))
-  goes_while test list goes =
-      goes_then goes_step (goes_bind (goes_number_value test) (λ found. goes_if (is_true found)
-      (goes_bind goes
-      (λ flow. goes_landed list run.at (typed.while test list) flow (goes_below run.start (typed.while test list))))
-      (goes_pure run.next)))
-
-  goes_repeat : (list : Statements) (test : Value) → Goes (run.items limit program below None list)
-      → Goes (run.statement limit program below run.start (typed.repeat list test))
-  goes_repeat list test goes =
-      goes_then goes_step (goes_bind goes
-      (λ flow. goes_landed list run.at (typed.repeat list test) flow (goes_until list test)))
-
+  -- loops from their begin, by what their lists do
   goes_for_start : (slot : Slot) (way : Way) (first last : Value) (list : Statements)
       → Goes (run.items limit program below None list)
       → Goes (run.statement limit program below run.start (typed.for slot way first last list))
   goes_for_start slot way first last list goes =
       goes_bind (goes_number_value first) (λ low. goes_bind (goes_number_value last) (λ high.
       goes_for slot way low high _ (goes_then goes_step (goes_bind goes
-      (λ flow. goes_behind_turn slot way high list (typed.for slot way first last list) flow)))))
+      (goes_behind_turn slot way high list (typed.for slot way first last list))))))
 
   mutual
     pub goes_statement : (from : Entry) (s : Statement) → Goes (run.statement limit program below from s)
@@ -285,32 +289,38 @@ module _ (limit : Option ℕ) (program : TypedProgram) (below : Doings)
         goes_bind (goes_number_value test)
         (λ found. goes_if (is_true found) (goes_statement run.start s) (goes_statement run.start t))
     goes_statement from (typed.case selector arms) =
-        goes_bind (goes_number_value selector) 
+        goes_bind (goes_number_value selector)
         (λ found. goes_arm found arms (goes_answered (wrong NO_CASE_MATCHES)))
     goes_statement from (typed.case_others selector arms s) =
         goes_bind (goes_number_value selector) (λ found. goes_arm found arms (goes_statement run.start s))
-    goes_statement run.start (typed.while test list) = goes_while test list (goes_list None list)
+    goes_statement run.again (typed.while test list) = goes_while_turn test list (goes_list None list)
     goes_statement (run.at label) (typed.while test list) =
-        goes_bind (goes_list (Some label) list)
-        (λ flow. goes_landed list run.at (typed.while test list) flow (goes_below run.start (typed.while test list)))
-    goes_statement (run.turn last) (typed.while test list) = goes_while test list (goes_list None list)
-    goes_statement (run.turn_at last label) (typed.while test list) = goes_while test list (goes_list None list)
-    goes_statement run.start (typed.repeat list test) = goes_repeat list test (goes_list None list)
+        goes_bind (goes_list (Some label) list) (goes_behind_while test list)
+    goes_statement run.start (typed.while test list) =
+        goes_then goes_step (goes_while_turn test list (goes_list None list))
+    goes_statement (run.turn last) (typed.while test list) =
+        goes_then goes_step (goes_while_turn test list (goes_list None list))
+    goes_statement (run.turn_at last label) (typed.while test list) =
+        goes_then goes_step (goes_while_turn test list (goes_list None list))
+    goes_statement run.again (typed.repeat list test) = goes_bind (goes_list None list) (goes_behind_repeat list test)
     goes_statement (run.at label) (typed.repeat list test) =
-        goes_bind (goes_list (Some label) list)
-        (λ flow. goes_landed list run.at (typed.repeat list test) flow (goes_until list test))
-    goes_statement (run.turn last) (typed.repeat list test) = goes_repeat list test (goes_list None list)
-    goes_statement (run.turn_at last label) (typed.repeat list test) = goes_repeat list test (goes_list None list)
+        goes_bind (goes_list (Some label) list) (goes_behind_repeat list test)
+    goes_statement run.start (typed.repeat list test) =
+        goes_then goes_step (goes_bind (goes_list None list) (goes_behind_repeat list test))
+    goes_statement (run.turn last) (typed.repeat list test) =
+        goes_then goes_step (goes_bind (goes_list None list) (goes_behind_repeat list test))
+    goes_statement (run.turn_at last label) (typed.repeat list test) =
+        goes_then goes_step (goes_bind (goes_list None list) (goes_behind_repeat list test))
+    goes_statement (run.turn high) (typed.for slot way first last list) =
+        goes_bind (goes_list None list) (goes_behind_turn slot way high list (typed.for slot way first last list))
+    goes_statement (run.turn_at high label) (typed.for slot way first last list) =
+        goes_bind (goes_list (Some label) list) (goes_behind_turn slot way high list (typed.for slot way first last list))
     goes_statement run.start (typed.for slot way first last list) =
+        goes_for_start slot way first last list (goes_list None list)
+    goes_statement run.again (typed.for slot way first last list) =
         goes_for_start slot way first last list (goes_list None list)
     goes_statement (run.at label) (typed.for slot way first last list) =
         goes_for_start slot way first last list (goes_list None list)
-    goes_statement (run.turn high) (typed.for slot way first last list) =
-        goes_then goes_step (goes_bind (goes_list None list)
-        (λ flow. goes_behind_turn slot way high list (typed.for slot way first last list) flow))
-    goes_statement (run.turn_at high label) (typed.for slot way first last list) =
-        goes_bind (goes_list (Some label) list)
-        (λ flow. goes_behind_turn slot way high list (typed.for slot way first last list) flow)
     goes_statement from (typed.goto label) = goes_pure _
     goes_statement from typed.goto_last = goes_last
     goes_statement from (typed.file_step step place) =

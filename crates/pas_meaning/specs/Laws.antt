@@ -1,6 +1,7 @@
 -- What holds of every run: its steps never rise, its trail grows at its front, and its files hold what the trail says.
 use Rattle.std.specs.Prelude.{◌≡◌, ℕ, ◌≤◌, List, ◌∷◌, map, ⊤}
-use Rattle.pas_meaning.specs.Outcome.{Output, World, Run, Outcome, gives, ends, errs, Doing, Worldly, passes, stops, fails}
+use Rattle.pas_meaning.specs.Outcome.{Output, World, Run, Outcome, gives, ends, errs, Doing, Worldly, passes, stops}
+use Rattle.pas_meaning.specs.Outcome.{fails}
 use Rattle.pas_meaning.specs.Outcome.{replay}
 
 -- a trail is an earlier one with more outputs in front
@@ -34,3 +35,7 @@ abbrev pub PassesOn : {A : Type 0} → World → Worldly A → Type 0
 PassesOn before (passes value now) = Onward before now
 PassesOn before (stops end) = ⊤
 PassesOn before (fails kind) = ⊤
+
+-- two things to do that do the same from each run of at most so many steps
+pub record Same {S A : Type 0} (most : ℕ) (doing other : Doing S A) : Type 0 where
+  pub each : (run : Run S) → run.world.steps ≤ most → doing run ≡ other run
