@@ -1,8 +1,8 @@
--- A bound that is large enough changes nothing: two bounds that agree for runs of fewer steps make statements that agree.
-use Rattle.std.proofs.Common.{◌≡◌, ℕ, zero, suc, ◌≤◌, ◌<◌, List, [], ◌∷◌, ◌++◌, Option, Some, None, Bool, true, false}
+-- A bound that is large enough changes nothing: bounds that agree for runs of fewer steps make statements that agree.
+use Rattle.std.proofs.Common.{◌≡◌, ℕ, zero, suc, ◌≤◌, ◌<◌, List, [], ◌∷◌, Option, Some, None, Bool, true, false}
 use Rattle.std.proofs.Common.{arith}
 use Rattle.std.proofs.Common.{refl, ap, ◌∙◌}
-use Rattle.std.specs.Prelude.{ℤ, if◌then◌else◌, length, nat_abs, not}
+use Rattle.std.specs.Prelude.{ℤ, if◌then◌else◌, length, nat_abs}
 use Rattle.std.specs.List.{list_any}
 use Rattle.pas_syntax.specs.declared.operators.Multiplying.TheVariants as multiplying
 use Rattle.pas_syntax.specs.declared.operators.Adding.TheVariants as adding
@@ -11,11 +11,9 @@ use Rattle.pas_types.specs.Types.{PasType}
 use Rattle.pas_types.specs.Typed as typed
 use Rattle.pas_types.specs.Typed.{FileTest, FileStep, Slot, Value, Place, Passed, Item, Statement, Statements, Arms}
 use Rattle.pas_types.specs.Typed.{Body, TypedProgram}
-use Rattle.pas_types.specs.Expressions.{type_of_place}
-use Rattle.pas_meaning.specs.Answers.{Answer, fine}
 use Rattle.pas_meaning.specs.Files as files
-use Rattle.pas_meaning.specs.Outcome.{Run, Outcome, gives, ends, errs, Doing, pure, and_then, ◌>>=◌, ◌>>◌, ask, change}
-use Rattle.pas_meaning.specs.Outcome.{led, stepped, take_step, begin_call}
+use Rattle.pas_meaning.specs.Outcome.{Run, Outcome, gives, ends, errs, Doing, pure, and_then, ◌>>=◌, ◌>>◌, ask}
+use Rattle.pas_meaning.specs.Outcome.{led, stepped, take_step}
 use Rattle.pas_meaning.specs.FileSteps.{change_file, append}
 use Rattle.pas_meaning.specs.Store as store
 use Rattle.pas_meaning.specs.Store.{Datum, Store, holds}
@@ -38,7 +36,8 @@ after_same n (ends end world) next other few same = refl
 after_same n (errs kind world) next other few same = refl
 
 same_bind : {S A B : Type 0} {n : ℕ} {first first' : Doing S A} {next next' : A → Doing S B} → Goes first
-    → Same n first first' → ((value : A) → Same n (next value) (next' value)) → Same n (first >>= next) (first' >>= next')
+    → Same n first first' → ((value : A) → Same n (next value) (next' value))
+    → Same n (first >>= next) (first' >>= next')
 same_bind {n = n} {first = first} {next = next} {next' = next'} on same later = record {
   each = λ now few.
       after_same n (first now) next next' (omega (arith, (on.each now).steps, few)) later
@@ -92,7 +91,8 @@ same_operand : {A : Type 0} {n : ℕ} {operand operand' : Doing Store Datum} {ne
     → Same n (operand >>= (λ datum. number_of datum >>= next)) (operand' >>= (λ datum. number_of datum >>= next'))
 same_operand on same later = same_bind on same (λ datum. same_behind (goes.goes_number datum) later)
 
-module _ (limit : Option ℕ) (program : TypedProgram) (b b' : Doings) (on : (from : Entry) (s : Statement) → Goes (b from s))
+module _ (limit : Option ℕ) (program : TypedProgram) (b b' : Doings)
+    (on : (from : Entry) (s : Statement) → Goes (b from s))
     (n : ℕ) (same : (fewer : ℕ) (from : Entry) (s : Statement) → fewer < n → Same fewer (b from s) (b' from s)) where
   same_body : (fewer : ℕ) → fewer < n → (body : Option Body) (arguments : List Argument)
       → Same fewer (run.body_run limit program b body arguments) (run.body_run limit program b' body arguments)
@@ -183,7 +183,8 @@ module _ (limit : Option ℕ) (program : TypedProgram) (b b' : Doings) (on : (fr
       same_bind (goes.goes_value limit program b on found) (same_value found) (λ datum. same_self n _)
 
   -- what is done with the file that a place means
-  same_file : {A : Type 0} (place : Place) {next next' : ℕ → Doing Store A} → ((file : ℕ) → Same n (next file) (next' file))
+  same_file : {A : Type 0} (place : Place) {next next' : ℕ → Doing Store A}
+      → ((file : ℕ) → Same n (next file) (next' file))
       → Same n (run.spot_at limit program b place >>= (λ spot. ask (run.file_of spot) >>= next))
       (run.spot_at limit program b' place >>= (λ spot. ask (run.file_of spot) >>= next'))
   same_file place later =
@@ -237,7 +238,8 @@ module _ (limit : Option ℕ) (program : TypedProgram) (b b' : Doings) (on : (fr
       → Same n (run.write_bytes limit program b type file items) (run.write_bytes limit program b' type file items)
   same_bytes type file [] = same_self n _
   same_bytes type file (item ∷ items) =
-      same_then (goes.goes_byte limit program b on type file item) (same_byte type file item) (same_bytes type file items)
+      same_then (goes.goes_byte limit program b on type file item) (same_byte type file item)
+      (same_bytes type file items)
 
   same_file_step : (step : FileStep) (file : ℕ)
       → Same n (run.file_step limit program b step file) (run.file_step limit program b' step file)
@@ -246,13 +248,14 @@ module _ (limit : Option ℕ) (program : TypedProgram) (b b' : Doings) (on : (fr
   same_file_step typed.get file = same_self n _
   same_file_step typed.put file = same_self n _
 
-  same_landed : (list : Statements) (entry : ℕ → Entry) (around : Statement) {rest rest' : Doing Store Flow} (flow : Flow)
-      → Same n rest rest'
+  same_landed : (list : Statements) (entry : ℕ → Entry) (around : Statement) {rest rest' : Doing Store Flow}
+      (flow : Flow) → Same n rest rest'
       → Same n (run.landed limit program b list entry around rest flow)
       (run.landed limit program b' list entry around rest' flow)
   same_landed list entry around run.next rest = rest
   same_landed list entry around (run.jump label) rest =
-      same_if (run.has_label list label) (same_step (λ fewer less. same fewer (entry label) around less)) (same_self n _)
+      same_if (run.has_label list label) (same_step (λ fewer less. same fewer (entry label) around less))
+      (same_self n _)
 
   same_again : (entry : Entry) (s : Statement) → Same n (take_step >> b entry s) (take_step >> b' entry s)
   same_again entry s = same_step (λ fewer less. same fewer entry s less)
@@ -293,7 +296,8 @@ module _ (limit : Option ℕ) (program : TypedProgram) (b b' : Doings) (on : (fr
   same_behind_turn slot way last list loop flow =
       same_landed list (run.turn_at last) loop flow (same_next_turn slot way last loop)
 
-  same_for : (slot : Slot) (way : Way) (first last : ℤ) (turns turns' : Doing Store Flow) → Goes turns → Same n turns turns'
+  same_for : (slot : Slot) (way : Way) (first last : ℤ) (turns turns' : Doing Store Flow) → Goes turns
+      → Same n turns turns'
       → Same n (run.for_from limit program b slot way first last turns)
       (run.for_from limit program b' slot way first last turns')
   same_for slot way first last turns turns' on_turns both =
@@ -303,7 +307,8 @@ module _ (limit : Option ℕ) (program : TypedProgram) (b b' : Doings) (on : (fr
       same_then (goes.goes_store program.types slot.variable.type (run.part slot []) low) (same_self n _)
       (same_bind on_turns both (λ flow. same_self n _)))))
 
-  same_first : {A : Type 0} {next next' : Doing Store A} → Same n next next' → Same n (take_step >> next) (take_step >> next')
+  same_first : {A : Type 0} {next next' : Doing Store A} → Same n next next'
+      → Same n (take_step >> next) (take_step >> next')
   same_first later = same_step (λ fewer less. same_less fewer (omega (arith, less)) later)
 
   same_for_start : (slot : Slot) (way : Way) (first last : Value) (list : Statements)
@@ -441,5 +446,6 @@ same_within limit program (suc bound) zero most from s few many =
 same_within limit program (suc bound) (suc other) most from s few many =
     same_statement limit program (run.within limit program (suc bound)) (run.within limit program (suc other))
     (goes.goes_within limit program (suc bound)) most (λ fewer entry t less. record {
-      each = (same_within limit program bound other fewer entry t (omega (arith, few, less)) (omega (arith, many, less))).each;
+      each = (same_within limit program bound other fewer entry t
+          (omega (arith, few, less)) (omega (arith, many, less))).each;
     }) from s

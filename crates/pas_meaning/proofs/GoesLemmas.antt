@@ -1,11 +1,8 @@
 -- Every statement goes on: the laws of a run, over the whole language.
-use Rattle.std.proofs.Common.{◌≡◌, ℕ, zero, suc, List, [], ◌∷◌, ◌++◌, map, Option, Some, None, Bool, true, false}
-use Rattle.std.proofs.Common.{arith, refl}
-use Rattle.std.specs.Prelude.{ℤ, pos, nat_abs, length, not, if◌then◌else◌}
+use Rattle.std.proofs.Common.{ℕ, zero, suc, List, [], ◌∷◌, ◌++◌, Option, Some, None}
+use Rattle.std.specs.Prelude.{ℤ, nat_abs, length, not}
 use Rattle.std.specs.List.{list_any}
-use Rattle.pas_syntax.specs.declared.operators.Multiplying.{Multiplying}
 use Rattle.pas_syntax.specs.declared.operators.Multiplying.TheVariants as multiplying
-use Rattle.pas_syntax.specs.declared.operators.Adding.{Adding}
 use Rattle.pas_syntax.specs.declared.operators.Adding.TheVariants as adding
 use Rattle.pas_syntax.specs.declared.operators.Way.{Way}
 use Rattle.pas_types.specs.Types.{PasType, Table}
@@ -17,8 +14,8 @@ use Rattle.pas_types.specs.Expressions.{type_of_place}
 use Rattle.pas_meaning.specs.declared.errors.TheConstants.{INDEX_OUT_OF_RANGE, NO_CASE_MATCHES}
 use Rattle.pas_meaning.specs.Answers.{wrong}
 use Rattle.pas_meaning.specs.Files as files
-use Rattle.pas_meaning.specs.Outcome.{World, halted, Doing, pure, ◌>>=◌, ◌>>◌, answered, ask, change, take_step}
-use Rattle.pas_meaning.specs.Outcome.{Worldly, stops, worldly}
+use Rattle.pas_meaning.specs.Outcome.{World, halted, Doing, pure, ◌>>=◌, ◌>>◌, ask, change, take_step}
+use Rattle.pas_meaning.specs.Outcome.{Worldly, stops}
 use Rattle.pas_meaning.specs.Store as store
 use Rattle.pas_meaning.specs.Store.{Datum, Store, holds}
 use Rattle.pas_meaning.specs.Arithmetic.{is_true, is_same, function_at, signed, multiplied, added, compared}
@@ -65,7 +62,8 @@ goes_last =
 
 module _ (limit : Option ℕ) (program : TypedProgram) (below : Doings)
     (goes_below : (from : Entry) (s : Statement) → Goes (below from s)) where
-  pub goes_body : (body : Option Body) (arguments : List Argument) → Goes (run.body_run limit program below body arguments)
+  pub goes_body : (body : Option Body) (arguments : List Argument)
+      → Goes (run.body_run limit program below body arguments)
   goes_body None arguments = goes_pure _
   goes_body (Some body) arguments =
       search (goes_bind, goes_then, goes_change, goes_below, goes_ask, goes_end_call, goes_pure) depth 12
@@ -154,7 +152,8 @@ module _ (limit : Option ℕ) (program : TypedProgram) (below : Doings)
   pub goes_readln : (file : ℕ) → Goes {S = Store} (change_file file files.readln)
   goes_readln file = goes_change_file file files.readln readln_keeps
 
-  pub goes_read_item : (type : PasType) (file : ℕ) (place : Place) → Goes (run.read_item limit program below type file place)
+  pub goes_read_item : (type : PasType) (file : ℕ) (place : Place)
+      → Goes (run.read_item limit program below type file place)
   goes_read_item type file place =
       goes_bind (goes_ask_file file files.buffer_read) (λ byte.
       goes_bind (goes_answered (run.component program.types type byte)) (λ datum. goes_bind (goes_place place)
@@ -163,7 +162,8 @@ module _ (limit : Option ℕ) (program : TypedProgram) (below : Doings)
   pub goes_read_items : (type : PasType) (file : ℕ) (places : List Place)
       → Goes (run.read_items limit program below type file places)
   goes_read_items type file [] = goes_pure tt
-  goes_read_items type file (place ∷ places) = goes_then (goes_read_item type file place) (goes_read_items type file places)
+  goes_read_items type file (place ∷ places) =
+      goes_then (goes_read_item type file place) (goes_read_items type file places)
 
   pub goes_field : (file : ℕ) (bytes_for : ℕ → List ℕ) (width : ℕ) (given : Option Value)
       → Goes (run.write_field limit program below file bytes_for width given)
@@ -314,7 +314,8 @@ module _ (limit : Option ℕ) (program : TypedProgram) (below : Doings)
     goes_statement (run.turn high) (typed.for slot way first last list) =
         goes_bind (goes_list None list) (goes_behind_turn slot way high list (typed.for slot way first last list))
     goes_statement (run.turn_at high label) (typed.for slot way first last list) =
-        goes_bind (goes_list (Some label) list) (goes_behind_turn slot way high list (typed.for slot way first last list))
+        goes_bind (goes_list (Some label) list)
+        (goes_behind_turn slot way high list (typed.for slot way first last list))
     goes_statement run.start (typed.for slot way first last list) =
         goes_for_start slot way first last list (goes_list None list)
     goes_statement run.again (typed.for slot way first last list) =

@@ -1,5 +1,5 @@
 -- A run goes on: its steps never rise, its trail grows at its front, and its files hold what the trail says.
-use Rattle.std.proofs.Common.{◌≡◌, ℕ, zero, suc, ◌+◌, ◌-◌, ◌≤◌, List, [], ◌∷◌, ◌++◌, map, Option, Some, None, Bool}
+use Rattle.std.proofs.Common.{◌≡◌, ℕ, zero, suc, ◌+◌, ◌-◌, List, [], ◌∷◌, ◌++◌, Option, Some, Bool}
 use Rattle.std.proofs.Common.{true}
 use Rattle.std.proofs.Common.{false, get_or, set, arith, refl, sym, ap, ◌∙◌}
 use Rattle.std.proofs.lemmas.List.{map-set, set-get_or}
@@ -9,9 +9,9 @@ use Rattle.pas_meaning.specs.declared.errors.TheConstants.{WRONG_MODE}
 use Rattle.pas_meaning.specs.Answers.{Answer, fine, wrong, then_answer}
 use Rattle.pas_meaning.specs.Files as files
 use Rattle.pas_meaning.specs.Files.{File}
-use Rattle.pas_meaning.specs.Outcome.{Output, World, Run, End, Outcome, gives, ends, errs, Doing, pure, and_then, ◌>>=◌}
+use Rattle.pas_meaning.specs.Outcome.{Output, World, End, Outcome, gives, ends, errs, Doing, pure, and_then, ◌>>=◌}
 use Rattle.pas_meaning.specs.Outcome.{◌>>◌, answered, ask, change, Worldly, passes, stops, fails, led, worldly, stepped}
-use Rattle.pas_meaning.specs.Outcome.{take_step, is_full, begin_call, end_call, stop, replay, too_deep}
+use Rattle.pas_meaning.specs.Outcome.{take_step, is_full, begin_call, end_call, stop, too_deep}
 use Rattle.pas_meaning.specs.Outcome.{emptied, wrote}
 use Rattle.pas_meaning.specs.FileSteps.{no_file, file_at, with_file, passed, ask_file, left, change_file, reset}
 use Rattle.pas_meaning.specs.FileSteps.{rewrite}
@@ -122,7 +122,8 @@ same_bytes : (number : ℕ) (file : File) (world : World) → file.bytes ≡ (fi
     → bytes_in (with_file number file world) ≡ bytes_in world
 same_bytes number file world same =
     map-set (λ (each : File). each.bytes) world.files number file
-    ∙ ap (set (bytes_in world) number) (same ∙ sym (get_or-map (λ (each : File). each.bytes) world.files number no_file))
+    ∙ ap (set (bytes_in world) number)
+    (same ∙ sym (get_or-map (λ (each : File). each.bytes) world.files number no_file))
     ∙ set-get_or (bytes_in world) number []
 
 pub keeps_on : (number : ℕ) (file : File) (world : World) → file.bytes ≡ (file_at number world).bytes

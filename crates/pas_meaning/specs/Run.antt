@@ -33,8 +33,8 @@ pub data Flow : Type 0 where
   next : Flow
   jump : ℕ → Flow
 
--- where a statement is entered: at its begin; at a label of its list; a loop behind the step of its next turn; or a `for`
--- that is under way with its last value, likewise
+-- where a statement is entered: at its begin; at a label of its list; a loop behind the step of its next turn; or a
+-- `for` that is under way with its last value, likewise
 pub data Entry : Type 0 where
   start : Entry
   at : ℕ → Entry
