@@ -1,0 +1,3 @@
+mod OnwardLemmas
+mod GoesLemmas
+mod BoundLemmas

@@ -1,0 +1,6 @@
+//! The scopes and types of Pascal.
+#![tactic(auto)]
+
+mod limits;
+
+pub use limits::{CELL_LIMIT, GREATEST_LABEL, ROUTINE_CELL_LIMIT, ROUTINE_LIMIT};
