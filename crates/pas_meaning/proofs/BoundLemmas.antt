@@ -287,7 +287,7 @@ module _ (limit : Option ℕ) (program : TypedProgram) (b b' : Doings)
       same_behind (goes_ask (λ found. store.number_at (store.home_of slot found) found)) (λ found.
       same_if (is_same found last) (same_self n _)
       (same_behind (goes_answered (within_maxint (run.next_value way found))) (λ following.
-      same_then (goes.goes_store program.types slot.variable.type (run.part slot []) (holds following)) (same_self n _)
+      same_then (goes.goes_store program.types slot.type (run.part slot []) (holds following)) (same_self n _)
       (same_again (run.turn last) loop))))
 
   same_behind_turn : (slot : Slot) (way : Way) (last : ℤ) (list : Statements) (loop : Statement) (flow : Flow)
@@ -302,9 +302,9 @@ module _ (limit : Option ℕ) (program : TypedProgram) (b b' : Doings)
       (run.for_from limit program b' slot way first last turns')
   same_for slot way first last turns turns' on_turns both =
       same_if (run.is_past way first last) (same_self n _)
-      (same_behind (goes_answered (store.fits program.types slot.variable.type (holds first))) (λ low.
-      same_behind (goes_answered (store.fits program.types slot.variable.type (holds last))) (λ high.
-      same_then (goes.goes_store program.types slot.variable.type (run.part slot []) low) (same_self n _)
+      (same_behind (goes_answered (store.fits program.types slot.type (holds first))) (λ low.
+      same_behind (goes_answered (store.fits program.types slot.type (holds last))) (λ high.
+      same_then (goes.goes_store program.types slot.type (run.part slot []) low) (same_self n _)
       (same_bind on_turns both (λ flow. same_self n _)))))
 
   same_first : {A : Type 0} {next next' : Doing Store A} → Same n next next'

@@ -236,7 +236,7 @@ module _ (limit : Option ℕ) (program : TypedProgram) (below : Doings)
       goes_bind (goes_ask (λ found. store.number_at (store.home_of slot found) found)) (λ found.
       goes_if (is_same found last) (goes_pure run.next)
       (goes_bind (goes_answered (within_maxint (run.next_value way found))) (λ following.
-      goes_then (goes_store program.types slot.variable.type (run.part slot []) (holds following))
+      goes_then (goes_store program.types slot.type (run.part slot []) (holds following))
       (goes_again (run.turn last) loop))))
 
   pub goes_behind_turn : (slot : Slot) (way : Way) (last : ℤ) (list : Statements) (loop : Statement) (flow : Flow)
@@ -251,9 +251,9 @@ module _ (limit : Option ℕ) (program : TypedProgram) (below : Doings)
       → Goes (run.for_from limit program below slot way first last turns)
   goes_for slot way first last turns goes =
       goes_if (run.is_past way first last) (goes_forget slot)
-      (goes_bind (goes_answered (store.fits program.types slot.variable.type (holds first))) (λ low.
-      goes_bind (goes_answered (store.fits program.types slot.variable.type (holds last))) (λ high.
-      goes_then (goes_store program.types slot.variable.type (run.part slot []) low)
+      (goes_bind (goes_answered (store.fits program.types slot.type (holds first))) (λ low.
+      goes_bind (goes_answered (store.fits program.types slot.type (holds last))) (λ high.
+      goes_then (goes_store program.types slot.type (run.part slot []) low)
       (goes_bind goes (λ flow. goes_on flow (goes_forget slot))))))
 
   pub goes_reads : (type : PasType) (file : ℕ) (places : List Place)

@@ -383,7 +383,7 @@ module _ (limit : Option ℕ) (program : TypedProgram) (below : Doings) where
     found ← ask (λ store. number_at (home_of slot store) store)
     (if is_same found last then pure next else (do
       following ← answered (within_maxint (next_value way found))
-      store_at program.types slot.variable.type (part slot []) (holds following)
+      store_at program.types slot.type (part slot []) (holds following)
       take_step
       below (turn last) loop))
 
@@ -395,9 +395,9 @@ module _ (limit : Option ℕ) (program : TypedProgram) (below : Doings) where
   abbrev pub for_from : Slot → Way → ℤ → ℤ → Doing Store Flow → Doing Store Flow
   for_from slot way first last turns =
       if is_past way first last then change (forget slot) >> pure next else (do
-        low ← answered (fits program.types slot.variable.type (holds first))
-        high ← answered (fits program.types slot.variable.type (holds last))
-        store_at program.types slot.variable.type (part slot []) low
+        low ← answered (fits program.types slot.type (holds first))
+        high ← answered (fits program.types slot.type (holds last))
+        store_at program.types slot.type (part slot []) low
         flow ← turns
         go_on flow (change (forget slot) >> pure next))
 

@@ -27,10 +27,10 @@ abbrev i : Variable
 i = record { name = codes "i"; mode = typed.declared; type = whole integer }
 
 abbrev the_output : Place
-the_output = typed.slot (record { home = typed.global; number = 0; variable = output })
+the_output = typed.slot (record { home = typed.global; number = 0; mode = typed.declared; type = text })
 
 abbrev slot_i : Slot
-slot_i = record { home = typed.global; number = 1; variable = i }
+slot_i = record { home = typed.global; number = 1; mode = typed.declared; type = whole integer }
 
 abbrev program_of : Statements → TypedProgram
 program_of list = record {
