@@ -6,6 +6,7 @@ use Rattle.wb_base.specs.declared.faults.TheConstants.{RESULT_NEVER_ASSIGNED, FI
 use Rattle.wb_base.specs.declared.faults.TheConstants.{READING_NUMBERS}
 use Rattle.pas_tokens.specs.Cutting.{wrong}
 use Rattle.pas_tokens.specs.Tokens.{fault_in}
+use Rattle.pas_syntax.specs.declared.operators.Adding.TheVariants as adding
 use Rattle.pas_syntax.specs.Tree as tree
 use Rattle.pas_syntax.specs.Tree.{Ident, Numeral, Lined, Separated, Idents, Constant, TypeForm, Expr, Factor, Plain}
 use Rattle.pas_syntax.specs.Tree.{Statement, Statements, Compound, Rows, VariableRow, Routine, Program}
@@ -111,7 +112,8 @@ array_form low high =
 abbrev with_variable : TypeForm → Statements → Program
 with_variable form list = record (program_of list) { variables = only (variable_row (codes "a") form) }
 
-pub bounds_in_the_wrong_order : fault_of (with_variable (array_form 3 1) (one tree.empty)) ≡ fault_shown CONSTANT_OUT_OF_RANGE
+pub bounds_in_the_wrong_order : fault_of (with_variable (array_form 3 1) (one tree.empty))
+    ≡ fault_shown CONSTANT_OUT_OF_RANGE
 unfolding checked_of program_words
 bounds_in_the_wrong_order = refl
 
