@@ -2,7 +2,7 @@
 use Rattle.std.specs.Prelude.{◌≡◌, ℕ, ◌≤◌, List, ◌∷◌, map, ⊤}
 use Rattle.pas_meaning.specs.Outcome.{Output, World, Run, Outcome, gives, ends, errs, Doing, Worldly, passes, stops}
 use Rattle.pas_meaning.specs.Outcome.{fails}
-use Rattle.pas_meaning.specs.Outcome.{replay}
+use Rattle.pas_meaning.specs.Outcome.{too_deep, replay}
 
 -- a trail is an earlier one with more outputs in front
 pub data Extends (earlier : List Output) : List Output → Type 0 where
@@ -39,3 +39,12 @@ PassesOn before (fails kind) = ⊤
 -- two things to do that do the same from each run of at most so many steps
 pub record Same {S A : Type 0} (most : ℕ) (doing other : Doing S A) : Type 0 where
   pub each : (run : Run S) → run.world.steps ≤ most → doing run ≡ other run
+
+-- an outcome is the other one, or too deep
+pub data DeepOr {S A : Type 0} (other : Outcome S A) : Outcome S A → Type 0 where
+  deep : (world : World) → DeepOr other (ends too_deep world)
+  same : DeepOr other other
+
+-- what is done is the other, but where it is too deep
+pub record AsRun {S A : Type 0} (doing other : Doing S A) : Type 0 where
+  pub each : (run : Run S) → DeepOr (other run) (doing run)
