@@ -198,10 +198,10 @@ module _ (scopes : Scopes) where
         judged (joined (quiet ∷ test.marks ∷ quiet ∷ then_part.marks ∷ quiet ∷ else_part.marks ∷ []))
         (known_of (both (λ value one other. typed.if_else value one other) test.value then_part.value)
         else_part.value)
-    plain_of around before (tree.case line expr of_line elements others end) =
+    plain_of around before (tree.case line expr of_line elements tail end) =
         let selector = checked (ordinal_only scopes.outer.types) (value_of scopes expr) in
         let arms = arms_of around before (base_of_value scopes.outer.types selector.value) elements in
-        let rest = others_of around (before ++ labels_in_elements elements) others in
+        let rest = others_of around (before ++ labels_in_elements elements) tail in
         judged (joined (quiet ∷ selector.marks ∷ quiet ∷ arms.marks ∷ rest.marks ∷ quiet ∷ []))
         (known_of (known_of rest.value selector.value) arms.value)
     plain_of around before (tree.while line expr do_line s) =
