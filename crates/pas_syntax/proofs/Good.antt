@@ -188,7 +188,7 @@ module _ {A B : Type 0} (P : A → List Word → Type 0) (E : A → Token → Ty
       }
   second us ts middle (Err e) read sound h = fails_second us ts middle e.0 e.1 read sound h
 
-  first_then : (ts : List Token) (r : Out A) → Good P E ts r
+  pub first_then : (ts : List Token) (r : Out A) → Good P E ts r
       → ((a : A) (us : List Word) (t : Token) → P a us → E a t → ReadsAt t (λ b vs. R b (us ++ vs)) F (g a))
       → GoesOn → Good R F ts (and_then r g)
   first_then ts (Ok p) h next some =

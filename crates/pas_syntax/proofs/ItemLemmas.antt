@@ -38,7 +38,7 @@ module _ {A : Type 0} (n : ℕ) (words : A → List Word) where
       ap (λ ws. behind_words first ++ ws) (map_push items item)
       ∙ sym (append_assoc (behind_words first) (flat_map behind_words items) (behind_words item))
 
-  one_item_more : (items : Separated A) (us : List Word) (line : ℕ) (item : A) (vs : List Word)
+  pub one_item_more : (items : Separated A) (us : List Word) (line : ℕ) (item : A) (vs : List Word)
       → AreItems items us → IsItem item vs → AreItems (pushed items line item) (us ++ at n k.Comma line ∷ vs)
   one_item_more items us line item vs is also =
       let last : Behind A = record { line = line; item = item } in

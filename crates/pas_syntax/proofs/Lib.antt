@@ -10,3 +10,5 @@ pub mod FactorReaches
 pub mod ItemLemmas
 pub mod ConstantLemmas
 pub mod TypeReads
+pub mod MarkLemmas
+pub mod SomeReads

@@ -2,3 +2,5 @@
 pub mod Prog
 pub mod Readers
 pub mod TypeReaders
+pub mod Marks
+pub mod StatementReaders
