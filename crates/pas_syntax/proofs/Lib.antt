@@ -12,3 +12,4 @@ pub mod ConstantLemmas
 pub mod TypeReads
 pub mod MarkLemmas
 pub mod SomeReads
+pub mod PhraseReads
