@@ -15,3 +15,6 @@ pub mod SomeReads
 pub mod PhraseReads
 pub mod PlaceLemmas
 pub mod SoFar
+pub mod DeepLemmas
+pub mod ExprViews
+pub mod ExprSteps
