@@ -13,3 +13,5 @@ pub mod TypeReads
 pub mod MarkLemmas
 pub mod SomeReads
 pub mod PhraseReads
+pub mod CaseReads
+pub mod StatementReads

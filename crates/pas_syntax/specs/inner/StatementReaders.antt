@@ -161,6 +161,7 @@ module _ (statement : ℕ → Prog Statement) (most : ℕ) where
   abbrev pub else_at : ℕ → Guard → Statement → Kind → Payload → ℕ → Prog Plain
   else_at n head s k.Else nothing line =
       skip (bind (statement n) (λ t. done (tree.if_else head.line head.value head.behind s line t)))
+  else_at n head s k.Else payload line = fail misplaced
   else_at n head s kind payload line = done (tree.if_then head.line head.value head.behind s)
 
   abbrev pub if_by : ℕ → ℕ → Prog Plain
