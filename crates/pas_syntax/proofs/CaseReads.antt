@@ -213,8 +213,8 @@ module _ (statement : ℕ → Prog Statement) (most : ℕ)
     reads_next_arm_at : (semicolon : ℕ) (kind : Kind) (payload : Payload) (line : ℕ)
         → ReadsAt (a_token kind payload line) (IsArm n semicolon) Any
         (next_arm_at statement most n semicolon kind payload line)
-    reads_next_arm_at semicolon k.End nothing line =
-        reads_done (IsArm n semicolon) Any (a_token k.End nothing line) (tail (tree.semicolon semicolon)) (refl, tt) tt
+    reads_next_arm_at semicolon k.End payload line =
+        reads_done (IsArm n semicolon) Any (a_token k.End payload line) (tail (tree.semicolon semicolon)) (refl, tt) tt
     reads_next_arm_at semicolon kind payload line = λ ts is. (an_arm semicolon).reads ts
 
     next_arm : (semicolon : ℕ) → ReadsSome (IsArm n semicolon) Any (look (next_arm_at statement most n semicolon))

@@ -15,3 +15,4 @@ pub mod SomeReads
 pub mod PhraseReads
 pub mod CaseReads
 pub mod StatementReads
+pub mod PhraseReaches

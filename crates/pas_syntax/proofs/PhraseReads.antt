@@ -269,10 +269,10 @@ module _ (most n : ℕ) (fits : n ≤ NESTING_LIMIT) where
       (reads_arguments line)
       (λ a us u is any. reads_done (λ s ws. R s (us ++ ws)) BehindPlain u (make a) (rw (append-nil us, is) refl, tt) tt)
       (λ a us is. (make a, [], (rw (append-nil us, is) refl, tt)))
-  reads_behind_statement_name name k.LeftBracket nothing line = λ ts is. (an_assignment most n fits name).reads ts
-  reads_behind_statement_name name k.Dot nothing line = λ ts is. (an_assignment most n fits name).reads ts
-  reads_behind_statement_name name k.Caret nothing line = λ ts is. (an_assignment most n fits name).reads ts
-  reads_behind_statement_name name k.Becomes nothing line = λ ts is. (an_assignment most n fits name).reads ts
+  reads_behind_statement_name name k.LeftBracket payload line = λ ts is. (an_assignment most n fits name).reads ts
+  reads_behind_statement_name name k.Dot payload line = λ ts is. (an_assignment most n fits name).reads ts
+  reads_behind_statement_name name k.Caret payload line = λ ts is. (an_assignment most n fits name).reads ts
+  reads_behind_statement_name name k.Becomes payload line = λ ts is. (an_assignment most n fits name).reads ts
   reads_behind_statement_name name kind payload line =
       reads_done (λ s ws. IsPlain n s (name_at n name ∷ ws)) BehindPlain (a_token kind payload line)
       (tree.procedure_call name None) (refl, tt) tt

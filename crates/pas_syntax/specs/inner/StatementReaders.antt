@@ -92,10 +92,10 @@ module _ (most : ℕ) where
   abbrev pub behind_statement_name : ℕ → Ident → Kind → Payload → ℕ → Prog Plain
   behind_statement_name n name k.LeftParenthesis nothing line =
       bind (arguments_by n line) (λ arguments. done (tree.procedure_call name (Some arguments)))
-  behind_statement_name n name k.LeftBracket nothing line = assignment_by n name
-  behind_statement_name n name k.Dot nothing line = assignment_by n name
-  behind_statement_name n name k.Caret nothing line = assignment_by n name
-  behind_statement_name n name k.Becomes nothing line = assignment_by n name
+  behind_statement_name n name k.LeftBracket payload line = assignment_by n name
+  behind_statement_name n name k.Dot payload line = assignment_by n name
+  behind_statement_name n name k.Caret payload line = assignment_by n name
+  behind_statement_name n name k.Becomes payload line = assignment_by n name
   behind_statement_name n name kind payload line = done (tree.procedure_call name None)
 
 -- the constants, the line of the colon and the statement of an element
@@ -211,7 +211,7 @@ module _ (statement : ℕ → Prog Statement) (most : ℕ) where
       bind (element_by n constants) (λ element. done (one_more element))
 
   abbrev pub next_arm_at : ℕ → ℕ → Kind → Payload → ℕ → Prog Arm
-  next_arm_at n semicolon k.End nothing line = done (tail (tree.semicolon semicolon))
+  next_arm_at n semicolon k.End payload line = done (tail (tree.semicolon semicolon))
   next_arm_at n semicolon kind payload line =
       bind (items_by constant most) (λ constants. look (behind_constants n semicolon constants))
 
