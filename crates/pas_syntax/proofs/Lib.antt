@@ -16,3 +16,4 @@ pub mod PhraseReads
 pub mod CaseReads
 pub mod StatementReads
 pub mod PhraseReaches
+pub mod CaseReaches
