@@ -17,3 +17,4 @@ pub mod CaseReads
 pub mod StatementReads
 pub mod PhraseReaches
 pub mod CaseReaches
+pub mod StatementReaches
