@@ -272,10 +272,30 @@ unfoldable pub statement : ℕ → ℕ → Prog Statement
 statement zero n = fail spent
 statement (suc most) n = look (statement_at (statement most) most n)
 
--- the same of a compound statement, which begins where `begin` comes next
+-- a compound statement, which begins where `begin` comes next
 abbrev pub compound_at : ℕ → ℕ → Kind → Payload → ℕ → Prog Compound
 compound_at most n k.Begin nothing line = compound_by (statement most) most n line
 compound_at most n kind payload line = fail misplaced
 
 unfoldable pub compound : ℕ → ℕ → Prog Compound
 compound most n = look (compound_at most n)
+
+-- parts of statements, where so many turns may be taken in each statement that stands in them
+abbrev pub plain : ℕ → ℕ → Prog Plain
+plain most n = look (plain_at (statement most) most n)
+
+abbrev pub statements : ℕ → ℕ → Prog Statements
+statements most n = statements_by (statement most) most n
+
+abbrev pub arms : ℕ → ℕ → Prog Arms
+arms most n = arms_by (statement most) most n
+
+abbrev pub next_arm : ℕ → ℕ → ℕ → Prog Arm
+next_arm most n semicolon = look (next_arm_at (statement most) most n semicolon)
+
+abbrev pub element : ℕ → ℕ → Separated Constant → Prog Element
+element most n constants = element_by (statement most) most n constants
+
+-- a reader that is told the line of the token that comes next
+abbrev pub with_line : {A : Type 0} → (ℕ → Prog A) → Prog A
+with_line reader = look (λ kind payload line. reader line)
