@@ -18,3 +18,6 @@ pub mod StatementReads
 pub mod PhraseReaches
 pub mod CaseReaches
 pub mod StatementReaches
+pub mod PlaceLemmas
+pub mod SoFar
+pub mod PlaceSteps

@@ -24,11 +24,13 @@ use Rattle.pas_syntax.specs.declared.tree.Factor as code_factor
 use Rattle.pas_syntax.specs.declared.tree.Variable as code_variable
 use Rattle.pas_syntax.specs.declared.tree.Selector as code_selector
 use Rattle.pas_syntax.specs.declared.tree.Exprs as code_exprs
+use Rattle.pas_syntax.specs.declared.tree.FunctionCall as code_call
+use Rattle.pas_syntax.specs.declared.tree.MoreExpr as code_more
 use Rattle.pas_syntax.specs.declared.tree.Expr.TheOpen.{Expr-F, Sum-F, Term-F, Factor-F, Selector-F, Exprs-F}
 use Rattle.pas_syntax.specs.declared.tree.Expr.TheOpen.{FunctionCall-F}
 use Rattle.pas_syntax.specs.declared.tree.Expr.TheOpen.{MoreExpr-F, Variable-F}
 use Rattle.pas_syntax.specs.declared.tree.Expr.TheFolds.{fold-Expr, fold-Sum, fold-Term, fold-Factor, fold-Variable}
-use Rattle.pas_syntax.specs.declared.tree.Expr.TheFolds.{fold-Selector, fold-Exprs}
+use Rattle.pas_syntax.specs.declared.tree.Expr.TheFolds.{fold-Selector, fold-Exprs, fold-FunctionCall, fold-MoreExpr}
 use Rattle.pas_syntax.specs.Tree as tree
 use Rattle.pas_syntax.specs.Tree.{Ident, Numeral, Quoted, Behind, Lined, Separated, Constant, Simple, Expr, Sum, Term}
 use Rattle.pas_syntax.specs.Tree.{Factor, Variable, Exprs}
@@ -159,5 +161,15 @@ module _ (spellings : List ℕ) where
 
   abbrev pub exprs_in : code_exprs.Exprs → Exprs
   exprs_in = fold-Exprs Expr Factor (Variable → Variable) Sum Term Exprs Factor (Exprs → Exprs) Variable
+      expr_step (factor_step spellings) (selector_step spellings) sum_step term_step exprs_step (call_step spellings)
+      more_expr_step (variable_step spellings)
+
+  abbrev pub call_in : code_call.FunctionCall → Factor
+  call_in = fold-FunctionCall Expr Factor (Variable → Variable) Sum Term Exprs Factor (Exprs → Exprs) Variable
+      expr_step (factor_step spellings) (selector_step spellings) sum_step term_step exprs_step (call_step spellings)
+      more_expr_step (variable_step spellings)
+
+  abbrev pub more_expr_in : code_more.MoreExpr → Exprs → Exprs
+  more_expr_in = fold-MoreExpr Expr Factor (Variable → Variable) Sum Term Exprs Factor (Exprs → Exprs) Variable
       expr_step (factor_step spellings) (selector_step spellings) sum_step term_step exprs_step (call_step spellings)
       more_expr_step (variable_step spellings)

@@ -1,6 +1,6 @@
 //! How deep a place lies.
-ghost use Rattle.std.specs.Prelude.{◌≡◌, ◌≤◌, ◌+◌, nat_lt, if◌then◌else◌, Ok, Err};
-ghost use Rattle.pas_syntax.specs.declared.stop.Stop.TheVariants.{LeftOut};
+ghost use Rattle.std.specs.Prelude.{◌+◌, IfOk, IfErr};
+ghost use Rattle.pas_syntax.specs.inner.Deeps.{IsInForm, IsInOperand, IsTooDeep};
 
 use crate::limits::NESTING_LIMIT;
 use crate::stop::Stop;
@@ -22,9 +22,8 @@ impl Depth {
 
     // Within one form more.
     pub(crate) fn in_form(self) -> Result<Depth, Stop>
-        requires { self.forms ≤ NESTING_LIMIT }
-        ensures { result ≡ (if nat_lt NESTING_LIMIT (self.forms + 1) then Err (LeftOut NESTING_PAST_LIMIT)
-            else Ok (record { forms = self.forms + 1; operators = self.operators })) }
+        ensures ok { IfOk result (IsInForm self) }
+        ensures err { IfErr result (IsTooDeep (self.forms + 1)) }
     {
         if self.forms >= NESTING_LIMIT {
             return Err(Stop::LeftOut(NESTING_PAST_LIMIT));
@@ -38,11 +37,10 @@ impl Depth {
     // Within the operand behind an operator, where so many operators stand on the longest way down through the one
     // before it.
     pub(crate) fn in_operand(self, left: usize) -> Result<Depth, Stop>
-        requires { self.operators + left ≤ NESTING_LIMIT }
-        ensures { result ≡ (if nat_lt NESTING_LIMIT (self.operators + 1 + left) then Err (LeftOut NESTING_PAST_LIMIT)
-            else Ok (record { forms = self.forms; operators = self.operators + 1 })) }
+        ensures ok { IfOk result (IsInOperand self left) }
+        ensures err { IfErr result (IsTooDeep (self.operators + 1 + left)) }
     {
-        if self.operators + left >= NESTING_LIMIT {
+        if left >= NESTING_LIMIT.saturating_sub(self.operators) {
             return Err(Stop::LeftOut(NESTING_PAST_LIMIT));
         }
         Ok(Depth {

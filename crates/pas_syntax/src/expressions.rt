@@ -1,4 +1,17 @@
 //! How expressions are read.
+ghost use Rattle.std.specs.Prelude.{◌≡◌, ◌<◌, ◌+◌, max, length, Ok, IfOk, OnOk};
+ghost use Rattle.pas_tokens.specs.declared.kinds.Kind.TheVariants as k;
+ghost use Rattle.wb_base.specs.declared.faults.TheConstants.{REAL_NUMBERS, SETS};
+ghost use Rattle.pas_syntax.specs.declared.limits.TheConstants.{NESTING_LIMIT};
+ghost use Rattle.pas_syntax.specs.Tree as tree;
+ghost use Rattle.pas_syntax.specs.Tree.{Variable as VariableTree};
+ghost use Rattle.pas_syntax.specs.Words.{depth_of, sum_depth, term_depth, factor_depth, variable_depth, exprs_depth};
+ghost use Rattle.pas_syntax.specs.Views.{lined_in, ident_in, expr_in, sum_in, term_in, factor_in, variable_in};
+ghost use Rattle.pas_syntax.specs.Views.{selector_in, exprs_in, call_in};
+ghost use Rattle.pas_syntax.specs.inner.Prog.{head, look, bind, a_turn};
+ghost use Rattle.pas_syntax.specs.inner.Places.{Parses, ParsesIn};
+ghost use Rattle.pas_syntax.specs.inner.Deeps.{of_deep, HasDepth, Makes, IsRefused};
+ghost use Rattle.pas_syntax.specs.inner.Readers as spec;
 
 use crate::depth::{Deep, Depth};
 use crate::operator_kinds::{adding_of, multiplying_of, relation_of, sign_of};
@@ -15,11 +28,10 @@ use wb_base::faults::{POINTERS, REAL_NUMBERS, SETS};
 
 // Reads `sum [("="|"<>"|"<"|"<="|">"|">=") sum]`.
 #[cycle(expression)]
-pub(crate) fn expr(
-    alloc: Global,
-    reader: &mut Reader<'_>,
-    depth: Depth,
-) -> Result<Deep<Expr>, Stop> {
+pub(crate) fn expr(alloc: Global, reader: &mut Reader<'_>, depth: Depth) -> Result<Deep<Expr>, Stop>
+    ensures value { Parses (λ m. spec.expr m depth.forms depth.operators) (of_deep expr_in) reader.old result reader.new }
+    ensures depth { IfOk result (λ found. HasDepth depth.operators found.depth (depth_of (expr_in reader.old.spellings found.tree))) }
+{
     let left = sum(alloc, reader, depth)?;
     match relation_of(reader.kind()) {
         Some(relation) => {
@@ -41,7 +53,12 @@ fn related(
     left: Deep<Sum>,
     relation: Lined<Relation>,
     right: Deep<Sum>,
-) -> Result<Deep<Expr>, Stop> {
+) -> Result<Deep<Expr>, Stop>
+    requires { max left.depth right.depth < NESTING_LIMIT }
+    ensures made { Makes (of_deep expr_in) result (λ spellings.
+        tree.relation (sum_in spellings left.tree) (lined_in relation) (sum_in spellings right.tree)) }
+    ensures depth { IfOk result (λ found. found.depth ≡ max left.depth right.depth + 1) }
+{
     Ok(Deep {
         depth: left.depth.max(right.depth) + 1,
         tree: Expr::Relation(
@@ -54,7 +71,10 @@ fn related(
 
 // Reads `["+"|"-"] term {("+"|"-"|"or") term}`.
 #[cycle(expression)]
-fn sum(alloc: Global, reader: &mut Reader<'_>, depth: Depth) -> Result<Deep<Sum>, Stop> {
+fn sum(alloc: Global, reader: &mut Reader<'_>, depth: Depth) -> Result<Deep<Sum>, Stop>
+    ensures value { Parses (λ m. spec.sum_by (spec.factor m) m depth.forms depth.operators) (of_deep sum_in) reader.old result reader.new }
+    ensures depth { IfOk result (λ found. HasDepth depth.operators found.depth (sum_depth (sum_in reader.old.spellings found.tree))) }
+{
     let mut left = first_term(alloc, reader, depth)?;
     'more: loop {
         match adding_of(reader.kind()) {
@@ -73,7 +93,9 @@ fn sum(alloc: Global, reader: &mut Reader<'_>, depth: Depth) -> Result<Deep<Sum>
 }
 
 // Refuses `in`, which would be left out.
-fn not_in(reader: &Reader<'_>) -> Result<(), Stop> {
+fn not_in(reader: &Reader<'_>) -> Result<(), Stop>
+    ensures { IsRefused k.In SETS (head reader.now.tokens).kind result }
+{
     match reader.kind() {
         Kind::In => Err(Stop::LeftOut(SETS)),
         _ => Ok(()),
@@ -82,7 +104,10 @@ fn not_in(reader: &Reader<'_>) -> Result<(), Stop> {
 
 // Reads `["+"|"-"] term`.
 #[cycle(expression)]
-fn first_term(alloc: Global, reader: &mut Reader<'_>, depth: Depth) -> Result<Deep<Sum>, Stop> {
+fn first_term(alloc: Global, reader: &mut Reader<'_>, depth: Depth) -> Result<Deep<Sum>, Stop>
+    ensures value { Parses (λ m. look (spec.first_term_at (spec.factor m) m depth.forms depth.operators)) (of_deep sum_in) reader.old result reader.new }
+    ensures depth { IfOk result (λ found. HasDepth depth.operators found.depth (sum_depth (sum_in reader.old.spellings found.tree))) }
+{
     match sign_of(reader.kind()) {
         Some(sign) => {
             let inner = depth.in_operand(0)?;
@@ -109,7 +134,12 @@ fn added(
     left: Deep<Sum>,
     adding: Lined<Adding>,
     right: Deep<Term>,
-) -> Result<Deep<Sum>, Stop> {
+) -> Result<Deep<Sum>, Stop>
+    requires { max left.depth right.depth < NESTING_LIMIT }
+    ensures made { Makes (of_deep sum_in) result (λ spellings.
+        tree.more_terms (sum_in spellings left.tree) (lined_in adding) (term_in spellings right.tree)) }
+    ensures depth { IfOk result (λ found. found.depth ≡ max left.depth right.depth + 1) }
+{
     Ok(Deep {
         depth: left.depth.max(right.depth) + 1,
         tree: Sum::MoreTerms(
@@ -122,7 +152,10 @@ fn added(
 
 // Reads `factor {("*"|"div"|"mod"|"and") factor}`.
 #[cycle(expression)]
-fn term(alloc: Global, reader: &mut Reader<'_>, depth: Depth) -> Result<Deep<Term>, Stop> {
+fn term(alloc: Global, reader: &mut Reader<'_>, depth: Depth) -> Result<Deep<Term>, Stop>
+    ensures value { Parses (λ m. spec.term_by (spec.factor m) m depth.forms depth.operators) (of_deep term_in) reader.old result reader.new }
+    ensures depth { IfOk result (λ found. HasDepth depth.operators found.depth (term_depth (term_in reader.old.spellings found.tree))) }
+{
     let first = factor(alloc, reader, depth)?;
     let mut left = Deep {
         tree: Term::FirstFactor(first.tree),
@@ -145,7 +178,9 @@ fn term(alloc: Global, reader: &mut Reader<'_>, depth: Depth) -> Result<Deep<Ter
 }
 
 // Refuses `/`, which would be left out.
-fn not_slash(reader: &Reader<'_>) -> Result<(), Stop> {
+fn not_slash(reader: &Reader<'_>) -> Result<(), Stop>
+    ensures { IsRefused k.Slash REAL_NUMBERS (head reader.now.tokens).kind result }
+{
     match reader.kind() {
         Kind::Slash => Err(Stop::LeftOut(REAL_NUMBERS)),
         _ => Ok(()),
@@ -158,7 +193,12 @@ fn multiplied(
     left: Deep<Term>,
     multiplying: Lined<Multiplying>,
     right: Deep<Factor>,
-) -> Result<Deep<Term>, Stop> {
+) -> Result<Deep<Term>, Stop>
+    requires { max left.depth right.depth < NESTING_LIMIT }
+    ensures made { Makes (of_deep term_in) result (λ spellings.
+        tree.more_factors (term_in spellings left.tree) (lined_in multiplying) (factor_in spellings right.tree)) }
+    ensures depth { IfOk result (λ found. found.depth ≡ max left.depth right.depth + 1) }
+{
     Ok(Deep {
         depth: left.depth.max(right.depth) + 1,
         tree: Term::MoreFactors(
@@ -171,7 +211,10 @@ fn multiplied(
 
 // Reads `number | string | "(" expr ")" | "not" factor | var | id "(" expr {"," expr} ")"`.
 #[cycle(expression)]
-fn factor(alloc: Global, reader: &mut Reader<'_>, depth: Depth) -> Result<Deep<Factor>, Stop> {
+fn factor(alloc: Global, reader: &mut Reader<'_>, depth: Depth) -> Result<Deep<Factor>, Stop>
+    ensures value { Parses (λ m. spec.factor m depth.forms depth.operators) (of_deep factor_in) reader.old result reader.new }
+    ensures depth { IfOk result (λ found. HasDepth depth.operators found.depth (factor_depth (factor_in reader.old.spellings found.tree))) }
+{
     match reader.kind() {
         Kind::Number => Ok(shallow(Factor::Literal(reader.numeral()?))),
         Kind::Text => Ok(shallow(Factor::Text(reader.quoted()?))),
@@ -201,17 +244,19 @@ fn factor(alloc: Global, reader: &mut Reader<'_>, depth: Depth) -> Result<Deep<F
 }
 
 // A factor without operators.
-fn shallow(tree: Factor) -> Deep<Factor> {
+fn shallow(tree: Factor) -> Deep<Factor>
+    ensures { result ≡ record { tree = tree; depth = 0 } }
+{
     Deep { tree, depth: 0 }
 }
 
 // Reads `var | id "(" expr {"," expr} ")"`.
 #[cycle(expression)]
-fn named_factor(
-    alloc: Global,
-    reader: &mut Reader<'_>,
-    depth: Depth,
-) -> Result<Deep<Factor>, Stop> {
+fn named_factor(alloc: Global, reader: &mut Reader<'_>, depth: Depth) -> Result<Deep<Factor>, Stop>
+    ensures value { ParsesIn (length reader.old.tokens) (λ m. spec.named_by (spec.factor m) m depth.forms
+        depth.operators) (of_deep factor_in) reader.old result reader.new }
+    ensures depth { IfOk result (λ found. HasDepth depth.operators found.depth (factor_depth (factor_in reader.old.spellings found.tree))) }
+{
     let name = reader.ident()?;
     match reader.kind() {
         Kind::LeftParenthesis => {
@@ -238,7 +283,12 @@ fn function_call(
     reader: &mut Reader<'_>,
     depth: Depth,
     name: Ident,
-) -> Result<Deep<FunctionCall>, Stop> {
+) -> Result<Deep<FunctionCall>, Stop>
+    requires { k.LeftParenthesis ≡ (head reader.old.tokens).kind }
+    ensures value { Parses (λ m. look (spec.behind_name (spec.factor m) m depth.forms depth.operators
+        (ident_in reader.old.spellings name))) (of_deep call_in) reader.old result reader.new }
+    ensures depth { IfOk result (λ found. HasDepth depth.operators found.depth (factor_depth (call_in reader.old.spellings found.tree))) }
+{
     let inner = depth.in_form()?;
     let opened = reader.pass();
     let arguments = exprs(alloc, reader, inner)?;
@@ -261,7 +311,11 @@ pub(crate) fn variable(
     reader: &mut Reader<'_>,
     depth: Depth,
     name: Ident,
-) -> Result<Deep<Variable>, Stop> {
+) -> Result<Deep<Variable>, Stop>
+    ensures value { Parses (λ m. spec.variable m depth.forms depth.operators (ident_in reader.old.spellings name))
+        (of_deep variable_in) reader.old result reader.new }
+    ensures depth { IfOk result (λ found. HasDepth depth.operators found.depth (variable_depth (variable_in reader.old.spellings found.tree))) }
+{
     let mut selectors = Items::new(alloc);
     let mut deepest = 0;
     'more: loop {
@@ -283,7 +337,14 @@ pub(crate) fn variable(
 
 // Reads `"[" expr {"," expr} "]" | "." id | "^"`.
 #[cycle(expression)]
-fn selector(alloc: Global, reader: &mut Reader<'_>, depth: Depth) -> Result<Deep<Selector>, Stop> {
+fn selector(alloc: Global, reader: &mut Reader<'_>, depth: Depth) -> Result<Deep<Selector>, Stop>
+    ensures value { (v : VariableTree) → Parses
+        (λ m. a_turn (spec.behind_variable (spec.factor m) m depth.forms depth.operators) v)
+        (λ spellings found. selector_in spellings found.tree v) reader.old result reader.new }
+    ensures depth { IfOk result (λ found. (v : VariableTree) → HasDepth depth.operators (max (variable_depth v) found.depth)
+        (variable_depth (selector_in reader.old.spellings found.tree v))) }
+    ensures further { OnOk result (length reader.new.tokens < length reader.old.tokens) }
+{
     match reader.kind() {
         Kind::LeftBracket => {
             let inner = depth.in_form()?;
@@ -311,7 +372,10 @@ fn selector(alloc: Global, reader: &mut Reader<'_>, depth: Depth) -> Result<Deep
 
 // Reads `expr {"," expr}`.
 #[cycle(expression)]
-fn exprs(alloc: Global, reader: &mut Reader<'_>, depth: Depth) -> Result<Deep<Exprs>, Stop> {
+fn exprs(alloc: Global, reader: &mut Reader<'_>, depth: Depth) -> Result<Deep<Exprs>, Stop>
+    ensures value { Parses (λ m. spec.exprs m depth.forms depth.operators) (of_deep exprs_in) reader.old result reader.new }
+    ensures depth { IfOk result (λ found. HasDepth depth.operators found.depth (exprs_depth (exprs_in reader.old.spellings found.tree))) }
+{
     let first = expr(alloc, reader, depth)?;
     let mut more = Items::new(alloc);
     let mut deepest = first.depth;

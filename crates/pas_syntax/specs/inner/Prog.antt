@@ -61,3 +61,12 @@ unfoldable pub turns : {A : Type 0} → (A → Kind → Payload → ℕ → Next
 turns next zero found = fail spent
 turns next (suc most) found =
     look (λ kind payload line. turn_by (turns next most) found (next found kind payload line))
+
+-- one turn of a loop, where there is one
+abbrev pub turn_of : {A : Type 0} → Next A → Prog A
+turn_of (more turn) = skip turn
+turn_of ends = fail spent
+turn_of (no why) = fail why
+
+abbrev pub a_turn : {A : Type 0} → (A → Kind → Payload → ℕ → Next A) → A → Prog A
+a_turn next found = look (λ kind payload line. turn_of (next found kind payload line))

@@ -14,7 +14,7 @@ use Rattle.pas_syntax.specs.declared.operators.Adding.TheVariants as adding
 use Rattle.pas_syntax.specs.declared.operators.Relation.{Relation}
 use Rattle.pas_syntax.specs.declared.operators.Relation.TheVariants as relates
 use Rattle.pas_syntax.specs.Tree as tree
-use Rattle.pas_syntax.specs.Tree.{Ident, Expr, Sum, Term, Factor, Variable, Exprs}
+use Rattle.pas_syntax.specs.Tree.{Ident, Quoted, Expr, Sum, Term, Factor, Variable, Exprs}
 use Rattle.pas_syntax.specs.Words.{depth_of, sum_depth, term_depth}
 use Rattle.pas_syntax.specs.inner.Prog.{Prog, done, fail, look, skip, bind, misplaced, shown, spent, Next, more, ends}
 use Rattle.pas_syntax.specs.inner.Prog.{no, turns}
@@ -43,6 +43,14 @@ ident_at kind payload line = fail misplaced
 
 abbrev pub ident : Prog Ident
 ident = look ident_at
+
+-- a string
+abbrev pub quoted_at : Kind → Payload → ℕ → Prog Quoted
+quoted_at k.Text (spelling text) line = skip (done (record { text = text; line = line }))
+quoted_at kind payload line = fail misplaced
+
+abbrev pub quoted : Prog Quoted
+quoted = look quoted_at
 
 abbrev pub right_parenthesis_at : Kind → Payload → ℕ → Prog ℕ
 right_parenthesis_at k.RightParenthesis nothing line = skip (done line)
@@ -148,6 +156,9 @@ module _ (factor : ℕ → ℕ → Prog Factor) (most : ℕ) where
   abbrev pub behind_name : ℕ → ℕ → Ident → Kind → Payload → ℕ → Prog Factor
   behind_name n a name k.LeftParenthesis nothing line = call_by n a name line
   behind_name n a name kind payload line = bind (variable_by n a name) (λ v. done (tree.variable v))
+
+  abbrev pub named_by : ℕ → ℕ → Prog Factor
+  named_by n a = bind ident (λ name. look (behind_name n a name))
 
   abbrev pub parenthesized_by : ℕ → ℕ → ℕ → Prog Factor
   parenthesized_by n a line =
