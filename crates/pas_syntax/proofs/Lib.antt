@@ -13,8 +13,14 @@ pub mod TypeReads
 pub mod MarkLemmas
 pub mod SomeReads
 pub mod PhraseReads
+pub mod CaseReads
+pub mod StatementReads
+pub mod PhraseReaches
+pub mod CaseReaches
+pub mod StatementReaches
 pub mod PlaceLemmas
 pub mod SoFar
+pub mod PlaceSteps
 pub mod DeepLemmas
 pub mod ExprViews
 pub mod ExprSteps

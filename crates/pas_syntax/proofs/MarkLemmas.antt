@@ -22,6 +22,17 @@ use Rattle.pas_syntax.proofs.WordLemmas.{sound_says}
 use Rattle.pas_syntax.proofs.ExprReads.{IsTaken}
 use Rattle.pas_syntax.proofs.Judged.{Reaches, reaches_skip}
 
+-- a number, to complete a tree with
+abbrev pub zero_numeral : Numeral
+zero_numeral = record { value = 0; line = 0 }
+
+abbrev pub IsNumeral : ℕ → Numeral → List Word → Type 0
+IsNumeral n number ws = ws ≡ number_at n number ∷ []
+
+-- a token that may be there
+abbrev pub MayBeTaken : ℕ → Kind → Option ℕ → List Word → Type 0
+MayBeTaken n wanted found ws = ws ≡ maybe n wanted found
+
 pub same_itself : (kind : Kind) → same_kind kind kind ≡ true
 same_itself kind = true_same the_type kind kind refl
 
@@ -48,24 +59,20 @@ module _ (n : ℕ) (fits : n ≤ NESTING_LIMIT) (wanted : Kind) (goes_on : k.End
       reads_look (IsTaken n wanted) Any (mark_at wanted)
       (λ kind payload line. reads_mark_if kind payload line (same_kind wanted kind) (same_is wanted kind))
 
-  -- a token that may be there, and behind which no other of its kind may stand where it is not
-  abbrev pub MayBeTaken : Option ℕ → List Word → Type 0
-  MayBeTaken found ws = ws ≡ maybe n wanted found
-
   reads_maybe_if : (kind : Kind) (payload : Payload) (line : ℕ) (same : Bool) → (same ≡ true → wanted ≡ kind)
-      → ReadsAt (a_token kind payload line) MayBeTaken Any (maybe_if same payload line)
+      → ReadsAt (a_token kind payload line) (MayBeTaken n wanted) Any (maybe_if same payload line)
   reads_maybe_if kind nothing line true is =
-      subst (λ other. ReadsAt (a_token other nothing line) MayBeTaken Any (skip (done (Some line)))) (is refl)
-      (reads_skip MayBeTaken Any (at n wanted line) (done (Some line)) goes_on (sound_says n wanted nothing line fits)
-      (λ ts. reads_done (λ x ws. MayBeTaken x (at n wanted line ∷ ws)) Any (head ts) (Some line) refl tt ts refl))
+      subst (λ other. ReadsAt (a_token other nothing line) (MayBeTaken n wanted) Any (skip (done (Some line)))) (is refl)
+      (reads_skip (MayBeTaken n wanted) Any (at n wanted line) (done (Some line)) goes_on (sound_says n wanted nothing line fits)
+      (λ ts. reads_done (λ x ws. MayBeTaken n wanted x (at n wanted line ∷ ws)) Any (head ts) (Some line) refl tt ts refl))
   reads_maybe_if kind payload line true is =
-      reads_done MayBeTaken Any (a_token kind payload line) None refl tt
+      reads_done (MayBeTaken n wanted) Any (a_token kind payload line) None refl tt
   reads_maybe_if kind payload line false is =
-      reads_done MayBeTaken Any (a_token kind payload line) None refl tt
+      reads_done (MayBeTaken n wanted) Any (a_token kind payload line) None refl tt
 
-  pub reads_maybe : Reads MayBeTaken Any (maybe_mark wanted)
+  pub reads_maybe : Reads (MayBeTaken n wanted) Any (maybe_mark wanted)
   reads_maybe =
-      reads_look MayBeTaken Any (maybe_at wanted)
+      reads_look (MayBeTaken n wanted) Any (maybe_at wanted)
       (λ kind payload line. reads_maybe_if kind payload line (same_kind wanted kind) (same_is wanted kind))
 
 module _ (n : ℕ) (fits : n ≤ NESTING_LIMIT) where
@@ -97,21 +104,15 @@ module _ (n : ℕ) (fits : n ≤ NESTING_LIMIT) where
       reaches_skip (done number) (number_at n number) [] (Ok (number, rest)) rest
       (sound_says n k.Number (value number.value) number.line fits) refl
 
-  abbrev pub IsNumeral : Numeral → List Word → Type 0
-  IsNumeral number ws = ws ≡ number_at n number ∷ []
-
-  abbrev pub zero_numeral : Numeral
-  zero_numeral = record { value = 0; line = 0 }
-
   reads_numeral_at : (kind : Kind) (payload : Payload) (line : ℕ)
-      → ReadsAt (a_token kind payload line) IsNumeral Any (numeral_at kind payload line)
+      → ReadsAt (a_token kind payload line) (IsNumeral n) Any (numeral_at kind payload line)
   reads_numeral_at k.Number (value number) line =
       let found : Numeral = record { value = number; line = line } in
-      reads_skip IsNumeral Any (number_at n found) (done found) (λ e. cc)
+      reads_skip (IsNumeral n) Any (number_at n found) (done found) (λ e. cc)
       (sound_says n k.Number (value number) line fits)
-      (λ ts. reads_done (λ x ws. IsNumeral x (number_at n found ∷ ws)) Any (head ts) found refl tt ts refl)
+      (λ ts. reads_done (λ x ws. IsNumeral n x (number_at n found ∷ ws)) Any (head ts) found refl tt ts refl)
   reads_numeral_at kind payload line =
-      reads_wrong IsNumeral Any (a_token kind payload line) zero_numeral (number_at n zero_numeral) [] refl
+      reads_wrong (IsNumeral n) Any (a_token kind payload line) zero_numeral (number_at n zero_numeral) [] refl
 
-  pub reads_numeral : Reads IsNumeral Any numeral
-  reads_numeral = reads_look IsNumeral Any numeral_at reads_numeral_at
+  pub reads_numeral : Reads (IsNumeral n) Any numeral
+  reads_numeral = reads_look (IsNumeral n) Any numeral_at reads_numeral_at

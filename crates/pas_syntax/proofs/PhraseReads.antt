@@ -60,6 +60,44 @@ zero_name = record { name = []; line = 0 }
 abbrev pub zero_statement : Statement
 zero_statement = tree.unlabelled tree.empty
 
+-- what stands before a statement: words from this one to this one, with an expression between them
+abbrev pub guard_words : ℕ → Kind → Kind → Guard → List Word
+guard_words n first word guard =
+    at n first guard.line ∷ (expr_words n 0 guard.value ++ at n word guard.behind ∷ [])
+
+abbrev pub IsGuard : ℕ → Kind → Kind → ℕ → Guard → List Word → Type 0
+IsGuard n first word line guard ws = at n first line ∷ ws ≡ guard_words n first word guard
+
+pub behind_guard : (n : ℕ) (first word : Kind) (guard : Guard) (ws : List Word)
+    → guard_words n first word guard ++ ws
+    ≡ at n first guard.line ∷ (expr_words n 0 guard.value ++ at n word guard.behind ∷ ws)
+behind_guard n first word guard ws =
+    ap (λ us. at n first guard.line ∷ us) (append_assoc (expr_words n 0 guard.value) (at n word guard.behind ∷ []) ws)
+
+-- the same of a `for`
+abbrev pub for_words : ℕ → ForHead → List Word
+for_words n h =
+    at n k.For h.line ∷ (name_at n h.name ∷ (at n k.Becomes h.becomes ∷ (expr_words n 0 h.first
+    ++ at n (way_kind h.toward.item) h.toward.line ∷ (expr_words n 0 h.last ++ at n k.Do h.do_line ∷ []))))
+
+abbrev pub IsForHead : ℕ → ℕ → ForHead → List Word → Type 0
+IsForHead n line h ws = at n k.For line ∷ ws ≡ for_words n h
+
+pub behind_for_head : (n : ℕ) (h : ForHead) (ws : List Word)
+    → for_words n h ++ ws
+    ≡ at n k.For h.line ∷ (name_at n h.name ∷ (at n k.Becomes h.becomes ∷ (expr_words n 0 h.first
+    ++ at n (way_kind h.toward.item) h.toward.line ∷ (expr_words n 0 h.last ++ at n k.Do h.do_line ∷ ws))))
+behind_for_head n h ws =
+    let way_word = at n (way_kind h.toward.item) h.toward.line in
+    let front = λ (us : List Word). at n k.For h.line ∷ (name_at n h.name ∷ (at n k.Becomes h.becomes ∷ us)) in
+    ap front (append_assoc (expr_words n 0 h.first)
+    (way_word ∷ (expr_words n 0 h.last ++ at n k.Do h.do_line ∷ [])) ws)
+    ∙ ap (λ us. front (expr_words n 0 h.first ++ way_word ∷ us))
+    (append_assoc (expr_words n 0 h.last) (at n k.Do h.do_line ∷ []) ws)
+
+abbrev pub IsArgument : ℕ → Argument → List Word → Type 0
+IsArgument n argument ws = ws ≡ argument_words n argument
+
 -- parts of which a tree is known
 module _ (most n : ℕ) (fits : n ≤ NESTING_LIMIT) where
   pub an_expr : ReadsSome (IsExpr n 0) Any (expr most n 0)
@@ -100,41 +138,18 @@ module _ (most n : ℕ) (fits : n ≤ NESTING_LIMIT) where
         some = (record { item = way.Up; line = 0 }, at n k.To 0 ∷ [], refl);
       }
 
-  -- what stands before a statement: words from this one to this one, with an expression between them
-  abbrev pub guard_words : Kind → Kind → Guard → List Word
-  guard_words first word guard =
-      at n first guard.line ∷ (expr_words n 0 guard.value ++ at n word guard.behind ∷ [])
-
-  abbrev pub IsGuard : Kind → Kind → ℕ → Guard → List Word → Type 0
-  IsGuard first word line guard ws = at n first line ∷ ws ≡ guard_words first word guard
-
   pub a_guard : (first word : Kind) (line : ℕ) → (k.EndOfText ≡ word → ⊥)
-      → ReadsSome (IsGuard first word line) Any (guard_by most n word line)
+      → ReadsSome (IsGuard n first word line) Any (guard_by most n word line)
   a_guard first word line goes_on =
       let guard : Expr → ℕ → Guard = λ e behind. record { line = line; value = e; behind = behind } in
-      reads_then (IsExpr n 0) Any (IsGuard first word line) Any (expr most n 0)
+      reads_then (IsExpr n 0) Any (IsGuard n first word line) Any (expr most n 0)
       (λ e. bind (mark word) (λ behind. done (guard e behind))) an_expr
-      (λ e us is. reads_last (IsTaken n word) Any (λ g vs. IsGuard first word line g (us ++ vs)) Any (mark word)
+      (λ e us is. reads_last (IsTaken n word) Any (λ g vs. IsGuard n first word line g (us ++ vs)) Any (mark word)
       (guard e) (a_mark word goes_on) (λ behind vs also. rw (is, also) refl) (λ behind t any. tt))
 
-  pub behind_guard : (first word : Kind) (guard : Guard) (ws : List Word)
-      → guard_words first word guard ++ ws
-      ≡ at n first guard.line ∷ (expr_words n 0 guard.value ++ at n word guard.behind ∷ ws)
-  behind_guard first word guard ws =
-      ap (λ us. at n first guard.line ∷ us) (append_assoc (expr_words n 0 guard.value) (at n word guard.behind ∷ []) ws)
-
-  -- the same of a `for`
-  abbrev pub for_words : ForHead → List Word
-  for_words h =
-      at n k.For h.line ∷ (name_at n h.name ∷ (at n k.Becomes h.becomes ∷ (expr_words n 0 h.first
-      ++ at n (way_kind h.toward.item) h.toward.line ∷ (expr_words n 0 h.last ++ at n k.Do h.do_line ∷ []))))
-
-  abbrev pub IsForHead : ℕ → ForHead → List Word → Type 0
-  IsForHead line h ws = at n k.For line ∷ ws ≡ for_words h
-
-  pub a_for_head : (line : ℕ) → ReadsSome (IsForHead line) Any (for_head_by most n line)
+  pub a_for_head : (line : ℕ) → ReadsSome (IsForHead n line) Any (for_head_by most n line)
   a_for_head line =
-      let R = IsForHead line in
+      let R = IsForHead n line in
       let made : Ident → ℕ → Expr → Lined Way → Expr → ℕ → ForHead = λ name becomes first toward last do_line.
       record {
         line = line;
@@ -166,18 +181,6 @@ module _ (most n : ℕ) (fits : n ≤ NESTING_LIMIT) where
       (mark k.Do) (made name becomes first toward last) (a_mark k.Do (λ e. cc))
       (λ do_line g ig. rw (ia, ib, ic, id, if_ok, ig) refl) (λ do_line t any. tt))))))
 
-  pub behind_for_head : (h : ForHead) (ws : List Word)
-      → for_words h ++ ws
-      ≡ at n k.For h.line ∷ (name_at n h.name ∷ (at n k.Becomes h.becomes ∷ (expr_words n 0 h.first
-      ++ at n (way_kind h.toward.item) h.toward.line ∷ (expr_words n 0 h.last ++ at n k.Do h.do_line ∷ ws))))
-  behind_for_head h ws =
-      let way_word = at n (way_kind h.toward.item) h.toward.line in
-      let front = λ (us : List Word). at n k.For h.line ∷ (name_at n h.name ∷ (at n k.Becomes h.becomes ∷ us)) in
-      ap front (append_assoc (expr_words n 0 h.first)
-      (way_word ∷ (expr_words n 0 h.last ++ at n k.Do h.do_line ∷ [])) ws)
-      ∙ ap (λ us. front (expr_words n 0 h.first ++ way_word ∷ us))
-      (append_assoc (expr_words n 0 h.last) (at n k.Do h.do_line ∷ []) ws)
-
   -- arguments
   abbrev IsWidth : Option (Behind Expr) → List Word → Type 0
   IsWidth width ws = ws ≡ words_if (width_words n) width
@@ -193,15 +196,12 @@ module _ (most n : ℕ) (fits : n ≤ NESTING_LIMIT) where
       (λ e us is. rw is refl) (λ e t any. tt)).reads
   reads_width_at kind payload line = reads_done IsWidth Any (a_token kind payload line) None refl tt
 
-  abbrev pub IsArgument : Argument → List Word → Type 0
-  IsArgument argument ws = ws ≡ argument_words n argument
-
-  pub an_argument : ReadsSome IsArgument Any (argument_by most n)
+  pub an_argument : ReadsSome (IsArgument n) Any (argument_by most n)
   an_argument =
       let make : Expr → Option (Behind Expr) → Argument = λ e width. record { value = e; width = width } in
-      reads_then (IsExpr n 0) Any IsArgument Any (expr most n 0)
+      reads_then (IsExpr n 0) Any (IsArgument n) Any (expr most n 0)
       (λ e. bind (look (width_at most n)) (λ width. done (make e width))) an_expr
-      (λ e us is. reads_last IsWidth Any (λ x ws. IsArgument x (us ++ ws)) Any (look (width_at most n)) (make e)
+      (λ e us is. reads_last IsWidth Any (λ x ws. IsArgument n x (us ++ ws)) Any (look (width_at most n)) (make e)
       (record { reads = reads_look IsWidth Any (width_at most n) reads_width_at; some = (None, [], refl) })
       (λ width vs also. rw (is, also) refl) (λ width t any. tt))
 
@@ -269,10 +269,10 @@ module _ (most n : ℕ) (fits : n ≤ NESTING_LIMIT) where
       (reads_arguments line)
       (λ a us u is any. reads_done (λ s ws. R s (us ++ ws)) BehindPlain u (make a) (rw (append-nil us, is) refl, tt) tt)
       (λ a us is. (make a, [], (rw (append-nil us, is) refl, tt)))
-  reads_behind_statement_name name k.LeftBracket nothing line = λ ts is. (an_assignment most n fits name).reads ts
-  reads_behind_statement_name name k.Dot nothing line = λ ts is. (an_assignment most n fits name).reads ts
-  reads_behind_statement_name name k.Caret nothing line = λ ts is. (an_assignment most n fits name).reads ts
-  reads_behind_statement_name name k.Becomes nothing line = λ ts is. (an_assignment most n fits name).reads ts
+  reads_behind_statement_name name k.LeftBracket payload line = λ ts is. (an_assignment most n fits name).reads ts
+  reads_behind_statement_name name k.Dot payload line = λ ts is. (an_assignment most n fits name).reads ts
+  reads_behind_statement_name name k.Caret payload line = λ ts is. (an_assignment most n fits name).reads ts
+  reads_behind_statement_name name k.Becomes payload line = λ ts is. (an_assignment most n fits name).reads ts
   reads_behind_statement_name name kind payload line =
       reads_done (λ s ws. IsPlain n s (name_at n name ∷ ws)) BehindPlain (a_token kind payload line)
       (tree.procedure_call name None) (refl, tt) tt

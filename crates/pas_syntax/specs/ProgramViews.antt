@@ -9,11 +9,21 @@ use Rattle.pas_syntax.specs.declared.tree.TypeForm.TheOpen.{TypeForm-F, FieldGro
 use Rattle.pas_syntax.specs.declared.tree.TypeForm.TheFolds.{fold-TypeForm}
 use Rattle.pas_syntax.specs.declared.tree.Argument.{Argument as CodeArgument}
 use Rattle.pas_syntax.specs.declared.tree.Arguments.{Arguments as CodeArguments}
+use Rattle.pas_syntax.specs.declared.tree.Plain as code_plain
+use Rattle.pas_syntax.specs.declared.tree.Statement as code_statement
+use Rattle.pas_syntax.specs.declared.tree.Statements as code_statements
+use Rattle.pas_syntax.specs.declared.tree.MoreStatement as code_more_statement
+use Rattle.pas_syntax.specs.declared.tree.Element as code_element
+use Rattle.pas_syntax.specs.declared.tree.Elements as code_elements
+use Rattle.pas_syntax.specs.declared.tree.MoreElement as code_more_element
+use Rattle.pas_syntax.specs.declared.tree.Others as code_others
 use Rattle.pas_syntax.specs.declared.tree.Compound as code_compound
 use Rattle.pas_syntax.specs.declared.tree.Others.TheOpen.{Others-F, Plain-F, Statement-F, Compound-F, Element-F}
 use Rattle.pas_syntax.specs.declared.tree.Others.TheOpen.{Elements-F}
 use Rattle.pas_syntax.specs.declared.tree.Others.TheOpen.{MoreElement-F, MoreStatement-F, Statements-F}
-use Rattle.pas_syntax.specs.declared.tree.Others.TheFolds.{fold-Compound}
+use Rattle.pas_syntax.specs.declared.tree.Others.TheFolds.{fold-Compound, fold-Plain, fold-Statement, fold-Statements}
+use Rattle.pas_syntax.specs.declared.tree.Others.TheFolds.{fold-MoreStatement, fold-Element, fold-Elements}
+use Rattle.pas_syntax.specs.declared.tree.Others.TheFolds.{fold-MoreElement, fold-Others}
 use Rattle.pas_syntax.specs.declared.tree.Labels.{Labels as CodeLabels}
 use Rattle.pas_syntax.specs.declared.tree.ConstantRow.{ConstantRow as CodeConstantRow}
 use Rattle.pas_syntax.specs.declared.tree.TypeRow.{TypeRow as CodeTypeRow}
@@ -157,11 +167,50 @@ module _ (spellings : List ℕ) where
   abbrev pub statements_step : OfStatements Statements-F → Statements
   statements_step list = in_turn (tree.first_statement list.first) list.more
 
+  abbrev pub plain_in : code_plain.Plain → Plain
+  plain_in = fold-Plain Others Plain Statement Compound Arm Elements (Elements → Elements) (Statements → Statements)
+      Statements others_step plain_step statement_step compound_step element_step elements_step more_element_step
+      more_statement_step statements_step
+
+  abbrev pub statement_in : code_statement.Statement → Statement
+  statement_in = fold-Statement Others Plain Statement Compound Arm Elements (Elements → Elements) (Statements → Statements)
+      Statements others_step plain_step statement_step compound_step element_step elements_step more_element_step
+      more_statement_step statements_step
+
+  abbrev pub statements_in : code_statements.Statements → Statements
+  statements_in = fold-Statements Others Plain Statement Compound Arm Elements (Elements → Elements) (Statements → Statements)
+      Statements others_step plain_step statement_step compound_step element_step elements_step more_element_step
+      more_statement_step statements_step
+
+  abbrev pub more_statement_in : code_more_statement.MoreStatement → Statements → Statements
+  more_statement_in = fold-MoreStatement Others Plain Statement Compound Arm Elements (Elements → Elements) (Statements → Statements)
+      Statements others_step plain_step statement_step compound_step element_step elements_step more_element_step
+      more_statement_step statements_step
+
   abbrev pub compound_in : code_compound.Compound → Compound
-  compound_in = fold-Compound Others Plain Statement Compound Arm Elements (Elements → Elements)
-      (Statements → Statements) Statements others_step plain_step statement_step compound_step element_step
-      elements_step
-      more_element_step more_statement_step statements_step
+  compound_in = fold-Compound Others Plain Statement Compound Arm Elements (Elements → Elements) (Statements → Statements)
+      Statements others_step plain_step statement_step compound_step element_step elements_step more_element_step
+      more_statement_step statements_step
+
+  abbrev pub element_in : code_element.Element → Arm
+  element_in = fold-Element Others Plain Statement Compound Arm Elements (Elements → Elements) (Statements → Statements)
+      Statements others_step plain_step statement_step compound_step element_step elements_step more_element_step
+      more_statement_step statements_step
+
+  abbrev pub elements_in : code_elements.Elements → Elements
+  elements_in = fold-Elements Others Plain Statement Compound Arm Elements (Elements → Elements) (Statements → Statements)
+      Statements others_step plain_step statement_step compound_step element_step elements_step more_element_step
+      more_statement_step statements_step
+
+  abbrev pub more_element_in : code_more_element.MoreElement → Elements → Elements
+  more_element_in = fold-MoreElement Others Plain Statement Compound Arm Elements (Elements → Elements) (Statements → Statements)
+      Statements others_step plain_step statement_step compound_step element_step elements_step more_element_step
+      more_statement_step statements_step
+
+  abbrev pub others_in : code_others.Others → Others
+  others_in = fold-Others Others Plain Statement Compound Arm Elements (Elements → Elements) (Statements → Statements)
+      Statements others_step plain_step statement_step compound_step element_step elements_step more_element_step
+      more_statement_step statements_step
 
   -- declarations
   abbrev pub labels_in : CodeLabels → Labels

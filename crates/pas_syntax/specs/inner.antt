@@ -6,3 +6,4 @@ pub mod Readers
 pub mod Marks
 pub mod TypeReaders
 pub mod StatementReaders
+pub mod StatementViews

@@ -92,10 +92,10 @@ module _ (most : ℕ) where
   abbrev pub behind_statement_name : ℕ → Ident → Kind → Payload → ℕ → Prog Plain
   behind_statement_name n name k.LeftParenthesis nothing line =
       bind (arguments_by n line) (λ arguments. done (tree.procedure_call name (Some arguments)))
-  behind_statement_name n name k.LeftBracket nothing line = assignment_by n name
-  behind_statement_name n name k.Dot nothing line = assignment_by n name
-  behind_statement_name n name k.Caret nothing line = assignment_by n name
-  behind_statement_name n name k.Becomes nothing line = assignment_by n name
+  behind_statement_name n name k.LeftBracket payload line = assignment_by n name
+  behind_statement_name n name k.Dot payload line = assignment_by n name
+  behind_statement_name n name k.Caret payload line = assignment_by n name
+  behind_statement_name n name k.Becomes payload line = assignment_by n name
   behind_statement_name n name kind payload line = done (tree.procedure_call name None)
 
 -- the constants, the line of the colon and the statement of an element
@@ -161,6 +161,7 @@ module _ (statement : ℕ → Prog Statement) (most : ℕ) where
   abbrev pub else_at : ℕ → Guard → Statement → Kind → Payload → ℕ → Prog Plain
   else_at n head s k.Else nothing line =
       skip (bind (statement n) (λ t. done (tree.if_else head.line head.value head.behind s line t)))
+  else_at n head s k.Else payload line = fail misplaced
   else_at n head s kind payload line = done (tree.if_then head.line head.value head.behind s)
 
   abbrev pub if_by : ℕ → ℕ → Prog Plain
@@ -210,7 +211,7 @@ module _ (statement : ℕ → Prog Statement) (most : ℕ) where
       bind (element_by n constants) (λ element. done (one_more element))
 
   abbrev pub next_arm_at : ℕ → ℕ → Kind → Payload → ℕ → Prog Arm
-  next_arm_at n semicolon k.End nothing line = done (tail (tree.semicolon semicolon))
+  next_arm_at n semicolon k.End payload line = done (tail (tree.semicolon semicolon))
   next_arm_at n semicolon kind payload line =
       bind (items_by constant most) (λ constants. look (behind_constants n semicolon constants))
 
@@ -271,10 +272,30 @@ unfoldable pub statement : ℕ → ℕ → Prog Statement
 statement zero n = fail spent
 statement (suc most) n = look (statement_at (statement most) most n)
 
--- the same of a compound statement, which begins where `begin` comes next
+-- a compound statement, which begins where `begin` comes next
 abbrev pub compound_at : ℕ → ℕ → Kind → Payload → ℕ → Prog Compound
 compound_at most n k.Begin nothing line = compound_by (statement most) most n line
 compound_at most n kind payload line = fail misplaced
 
 unfoldable pub compound : ℕ → ℕ → Prog Compound
 compound most n = look (compound_at most n)
+
+-- parts of statements, where so many turns may be taken in each statement that stands in them
+abbrev pub plain : ℕ → ℕ → Prog Plain
+plain most n = look (plain_at (statement most) most n)
+
+abbrev pub statements : ℕ → ℕ → Prog Statements
+statements most n = statements_by (statement most) most n
+
+abbrev pub arms : ℕ → ℕ → Prog Arms
+arms most n = arms_by (statement most) most n
+
+abbrev pub next_arm : ℕ → ℕ → ℕ → Prog Arm
+next_arm most n semicolon = look (next_arm_at (statement most) most n semicolon)
+
+abbrev pub element : ℕ → ℕ → Separated Constant → Prog Element
+element most n constants = element_by (statement most) most n constants
+
+-- a reader that is told the line of the token that comes next
+abbrev pub with_line : {A : Type 0} → (ℕ → Prog A) → Prog A
+with_line reader = look (λ kind payload line. reader line)

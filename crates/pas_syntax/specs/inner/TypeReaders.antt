@@ -23,7 +23,8 @@ use Rattle.pas_syntax.specs.inner.Prog.{
   ends,
   turns,
 }
-use Rattle.pas_syntax.specs.inner.Readers.{in_form, ident, right_bracket_at}
+use Rattle.pas_syntax.specs.inner.Readers.{in_form, ident}
+use Rattle.pas_syntax.specs.inner.Marks.{mark}
 
 -- items with one more behind a separator in this line
 abbrev pub pushed : {A : Type 0} → Separated A → ℕ → A → Separated A
@@ -83,50 +84,71 @@ simple = look simple_at
 --      | ["packed"] "array" "[" simple {"," simple} "]" "of" type
 --      | ["packed"] "record" ids ":" type {";" ids ":" type} [";"] "end"
 --      | ["packed"] "file" "of" type
-abbrev pub of_at : Kind → Payload → ℕ → Prog ℕ
-of_at k.Of nothing line = skip (done line)
-of_at kind payload line = fail misplaced
+-- what stands before the element of an array type
+pub record ArrayStart : Type 0 where
+  pub packed : Option ℕ
+  pub line : ℕ
+  pub opened : ℕ
+  pub indexes : Separated Simple
+  pub closed : ℕ
+  pub of_line : ℕ
 
-abbrev pub colon_at : Kind → Payload → ℕ → Prog ℕ
-colon_at k.Colon nothing line = skip (done line)
-colon_at kind payload line = fail misplaced
-
-abbrev pub end_at : Kind → Payload → ℕ → Prog ℕ
-end_at k.End nothing line = skip (done line)
-end_at kind payload line = fail misplaced
+-- ids ":" type
+pub record Group : Type 0 where
+  pub names : Idents
+  pub colon : ℕ
+  pub form : TypeForm
 
 -- fields so far, and the semicolon behind them, if that is the last token read
 pub record FieldsRead : Type 0 where
   pub fields : Fields
   pub semicolon : Option ℕ
 
-module _ (form : ℕ → Prog TypeForm) (most : ℕ) where
-  abbrev pub indexes_at : ℕ → (ℕ → Separated Simple → ℕ → ℕ → Prog TypeForm) → Kind → Payload → ℕ → Prog TypeForm
-  indexes_at n further k.LeftBracket nothing opened =
-      in_form (n + 2) (skip (bind (items_by simple most) (λ indexes. bind (look right_bracket_at)
-      (λ closed. bind (look of_at) (λ of_line. further opened indexes closed of_line)))))
-  indexes_at n further kind payload line = fail misplaced
+-- the bracket that opens a form
+abbrev pub open_at : ℕ → Kind → Payload → ℕ → Prog ℕ
+open_at n k.LeftBracket nothing line = in_form n (skip (done line))
+open_at n kind payload line = fail misplaced
 
+abbrev pub idents_by : ℕ → Prog Idents
+idents_by most = items_by ident most
+
+-- "[" simple {"," simple} "]" "of", in a form inside n others
+abbrev pub array_start_by : ℕ → ℕ → Option ℕ → ℕ → Prog ArrayStart
+array_start_by most n packed line =
+    bind (look (open_at (n + 2))) (λ opened. bind (items_by simple most) (λ indexes. bind (mark k.RightBracket)
+    (λ closed. bind (mark k.Of) (λ of_line. done (record {
+      packed = packed;
+      line = line;
+      opened = opened;
+      indexes = indexes;
+      closed = closed;
+      of_line = of_line;
+    })))))
+
+module _ (form : ℕ → Prog TypeForm) (most : ℕ) where
   abbrev pub array_by : ℕ → Option ℕ → ℕ → Prog TypeForm
   array_by n packed line =
-      in_form (n + 1) (skip (look (indexes_at n (λ opened indexes closed of_line. bind (form (n + 1))
-      (λ element. done (tree.array packed line opened indexes closed of_line element))))))
+      in_form (n + 1) (skip (bind (array_start_by most n packed line) (λ start. bind (form (n + 1))
+      (λ element. done (tree.array start.packed start.line start.opened start.indexes start.closed start.of_line
+      element)))))
 
   abbrev pub file_by : ℕ → Option ℕ → ℕ → Prog TypeForm
   file_by n packed line =
-      in_form (n + 1) (skip (bind (look of_at) (λ of_line. bind (form (n + 1))
+      in_form (n + 1) (skip (bind (mark k.Of) (λ of_line. bind (form (n + 1))
       (λ component. done (tree.file packed line of_line component)))))
 
-  -- ids ":" type
-  abbrev pub group_by : {A : Type 0} → ℕ → Prog Idents → (Idents → ℕ → TypeForm → A) → Prog A
-  group_by n names make =
-      bind names (λ all. bind (look colon_at) (λ colon. bind (form n) (λ element. done (make all colon element))))
+  abbrev pub group_by : ℕ → Prog Group
+  group_by n =
+      bind (idents_by most) (λ names. bind (mark k.Colon) (λ colon. bind (form n)
+      (λ element. done (record { names = names; colon = colon; form = element }))))
 
   -- behind a semicolon: more fields, or nothing
   abbrev pub behind_semicolon : ℕ → Fields → ℕ → Kind → Payload → ℕ → Prog FieldsRead
   behind_semicolon n fields line k.Name payload name_line =
-      group_by n (items_by ident most)
-      (λ names colon element. record { fields = tree.more_fields fields line names colon element; semicolon = None })
+      bind (group_by n) (λ group. done (record {
+        fields = tree.more_fields fields line group.names group.colon group.form;
+        semicolon = None;
+      }))
   behind_semicolon n fields line kind payload other_line = done (record { fields = fields; semicolon = Some line })
 
   abbrev pub behind_fields_by : ℕ → Fields → Option ℕ → Kind → Payload → ℕ → Next FieldsRead
@@ -136,12 +158,17 @@ module _ (form : ℕ → Prog TypeForm) (most : ℕ) where
   abbrev pub behind_fields : ℕ → FieldsRead → Kind → Payload → ℕ → Next FieldsRead
   behind_fields n found kind payload line = behind_fields_by n found.fields found.semicolon kind payload line
 
+  abbrev pub first_group : Group → FieldsRead
+  first_group group = record { fields = tree.first_fields group.names group.colon group.form; semicolon = None }
+
+  -- ids ":" type {";" ids ":" type} [";"]
+  abbrev pub fields_by : ℕ → Prog FieldsRead
+  fields_by n = bind (group_by n) (λ first. turns (behind_fields n) most (first_group first))
+
   abbrev pub record_by : ℕ → Option ℕ → ℕ → Prog TypeForm
   record_by n packed line =
-      in_form (n + 1) (skip (bind (group_by (n + 1) (items_by ident most)
-      (λ names colon element. record { fields = tree.first_fields names colon element; semicolon = None }))
-      (λ first. bind (turns (behind_fields (n + 1)) most first) (λ found. bind (look end_at)
-      (λ end. done (tree.record_type packed line found.fields found.semicolon end))))))
+      in_form (n + 1) (skip (bind (fields_by (n + 1)) (λ found. bind (mark k.End)
+      (λ end. done (tree.record_type packed line found.fields found.semicolon end)))))
 
   abbrev pub structured_at : ℕ → Option ℕ → Kind → Payload → ℕ → Prog TypeForm
   structured_at n packed k.Array nothing line = array_by n packed line
