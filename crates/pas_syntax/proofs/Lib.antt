@@ -24,3 +24,5 @@ pub mod PlaceSteps
 pub mod DeepLemmas
 pub mod ExprViews
 pub mod ExprSteps
+pub mod ItemSteps
+pub mod ConstantSteps

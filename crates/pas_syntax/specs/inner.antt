@@ -7,3 +7,4 @@ pub mod Marks
 pub mod TypeReaders
 pub mod StatementReaders
 pub mod StatementViews
+pub mod TypeViews
