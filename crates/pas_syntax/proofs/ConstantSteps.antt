@@ -108,3 +108,41 @@ name_at lead ts kind payload line not = refl
 pub name_goes : (lead : Option (Lined Sign)) (ts : List Token) → (k.Number ≡ (head ts).kind → ⊥)
     → run (look (unsigned_at lead)) ts ≡ run (bind ident (λ found. done (tree.named lead found))) ts
 name_goes lead ts not = name_at lead ts (head ts).kind (head ts).payload (head ts).line not
+
+-- simple types
+pub dots_goes : (name : Ident) (ts : List Token) → k.Dots ≡ (head ts).kind → Fits (head ts).kind (head ts).payload
+    → run (look (behind_simple_name name)) ts ≡ run (range_by (tree.named None name)) ts
+dots_goes name ts is fits =
+    told (behind_simple_name name) k.Dots ts (head ts).line tt is fits refl
+    ∙ sym (told (λ kind payload line. bind (mark_at k.Dots kind payload line)
+    (λ line. bind constant (λ high. done (tree.range (tree.named None name) line high)))) k.Dots ts (head ts).line tt is
+    fits refl)
+
+pub no_dots : (name : Ident) (kind : Kind) (payload : Payload) (line : ℕ) → (k.Dots ≡ kind → ⊥)
+    → behind_simple_name name kind payload line ≡ done (tree.simple_named name)
+no_dots name k.Dots payload line not = absurd (not refl)
+no_dots name kind payload line not = refl
+
+pub range_goes : (low : Constant) (ts : List Token) → run (look (range_at low)) ts ≡ run (range_by low) ts
+range_goes low ts = goes (head ts).kind (head ts).payload (head ts).line
+  where
+    goes : (kind : Kind) (payload : Payload) (line : ℕ) → run (range_at low kind payload line) ts
+        ≡ run (bind (mark_at k.Dots kind payload line) (λ line. bind constant (λ high. done (tree.range low line high))))
+        ts
+    goes k.Dots nothing line = refl
+    goes k.Dots payload line = refl
+    goes kind payload line = refl
+
+simple_at_goes : (ts : List Token) (kind : Kind) (payload : Payload) (line : ℕ) → (k.Name ≡ kind → ⊥)
+    → left_out_type kind ≡ None
+    → simple_at kind payload line ≡ bind constant (λ low. look (range_at low))
+simple_at_goes ts k.Name payload line not none = absurd (not refl)
+simple_at_goes ts k.LeftParenthesis payload line not none = absurd cc
+simple_at_goes ts k.Set payload line not none = absurd cc
+simple_at_goes ts k.Caret payload line not none = absurd cc
+simple_at_goes ts kind payload line not none = refl
+
+pub simple_goes : (ts : List Token) → (k.Name ≡ (head ts).kind → ⊥) → left_out_type (head ts).kind ≡ None
+    → run simple ts ≡ run (bind constant (λ low. look (range_at low))) ts
+simple_goes ts not none =
+    ap (λ q. run q ts) (simple_at_goes ts (head ts).kind (head ts).payload (head ts).line not none)
