@@ -26,3 +26,4 @@ pub mod ExprViews
 pub mod ExprSteps
 pub mod ItemSteps
 pub mod ConstantSteps
+pub mod TokenLemmas
