@@ -21,3 +21,4 @@ pub mod StatementReaches
 pub mod PlaceLemmas
 pub mod SoFar
 pub mod PlaceSteps
+pub mod TypeReaches
