@@ -6,4 +6,5 @@ pub mod Readers
 pub mod Marks
 pub mod TypeReaders
 pub mod StatementReaders
+pub mod DeclarationReaders
 pub mod StatementViews
