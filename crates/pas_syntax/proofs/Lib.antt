@@ -22,3 +22,4 @@ pub mod PlaceLemmas
 pub mod SoFar
 pub mod PlaceSteps
 pub mod TypeReaches
+pub mod DeclarationReads
