@@ -23,3 +23,4 @@ pub mod SoFar
 pub mod PlaceSteps
 pub mod TypeReaches
 pub mod DeclarationReads
+pub mod ProgramReads
