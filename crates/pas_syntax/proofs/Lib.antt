@@ -24,3 +24,4 @@ pub mod PlaceSteps
 pub mod TypeReaches
 pub mod DeclarationReads
 pub mod ProgramReads
+pub mod DeclarationReaches
