@@ -25,3 +25,5 @@ pub mod TypeReaches
 pub mod DeclarationReads
 pub mod ProgramReads
 pub mod DeclarationReaches
+pub mod ProgramReaches
+pub mod Conclusions

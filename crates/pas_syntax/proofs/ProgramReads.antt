@@ -155,7 +155,7 @@ module _ (most : ℕ) where
         ))
         (λ end t any. tt))))
 
-abbrev HasNearest : Routine → Type 0
+abbrev pub HasNearest : Routine → Type 0
 HasNearest routine = IsNearestBody routine.body
 
 abbrev pub AreRoutines : List Routine → List Word → Type 0
