@@ -27,3 +27,8 @@ pub mod ProgramReads
 pub mod DeclarationReaches
 pub mod ProgramReaches
 pub mod Conclusions
+pub mod DeepLemmas
+pub mod ExprViews
+pub mod ExprSteps
+pub mod ItemSteps
+pub mod ConstantSteps

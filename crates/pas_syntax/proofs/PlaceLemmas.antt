@@ -17,7 +17,11 @@ use Rattle.pas_syntax.specs.inner.Prog.{Next, more, ends, no, turns, turn_by}
 use Rattle.pas_syntax.specs.inner.Places.{Place, Fits, IsPlain, AreTokens, spelled_by, spelled_of, Passes, StopsBy}
 use Rattle.pas_syntax.specs.inner.Places.{Gives, ParsesIn, Parses, same}
 use Rattle.pas_syntax.specs.inner.Marks.{same_kind, mark_if, mark_at, mark, maybe_if, maybe_at, maybe_mark}
-use Rattle.pas_syntax.proofs.ProgLemmas.{run_bind}
+use Rattle.pas_syntax.specs.declared.tree.Ident.{Ident as CodeIdent}
+use Rattle.pas_syntax.specs.Tree.{Ident}
+use Rattle.pas_syntax.specs.Views.{ident_in}
+use Rattle.pas_syntax.specs.inner.Readers.{ident_at, ident}
+use Rattle.pas_syntax.proofs.ProgLemmas.{run_bind, rest_of}
 
 -- tokens
 pub head_fits : (ts : List Token) → AreTokens ts → Fits (head ts).kind (head ts).payload
@@ -232,3 +236,95 @@ spelled_front spellings before count (u ∷ ts) t is at_head tokens size =
     ∙ ap length is ∙ length-append part (spelled_of ts) in
     let same_size : length part ≡ count = ap (λ t. length (spelled_by t.payload)) at_head ∙ sym size in
     omega (arith, all, same_size)
+
+-- where a `?` returns early
+pub returned : {A X : Type 0} {view : List ℕ → X → A} {p : ℕ → Prog A} {least : ℕ} {old new : Place}
+    {result : Result X Stop} {why : Stop} → ((found : Stop) × (result ≡ Err found) × (found ≡ why))
+    → ParsesIn least p view old (Err why) new → ParsesIn least p view old result new
+returned {view = view} {p = p} {least = least} {old = old} {new = new} e h =
+    subst (λ r. ParsesIn least p view old r new) (sym (e.1 ∙ ap Err e.2)) h
+
+-- a token that says nothing beside its kind
+pub told : {A : Type 0} (f : Kind → Payload → ℕ → Prog A) (kind : Kind) (ts : List Token) (line : ℕ) → IsPlain kind
+    → kind ≡ (head ts).kind → Fits (head ts).kind (head ts).payload → line ≡ (head ts).line
+    → run (look f) ts ≡ run (f kind nothing line) ts
+told f kind ts line plain is fits same =
+    let said : (head ts).payload ≡ nothing = plain_nothing kind (head ts).payload plain
+    (subst (λ kind. Fits kind (head ts).payload) (sym is) fits) in
+    sym (λ i. run (f (is i) (sym said i) (same i)) ts)
+
+pub line_of_head : {old new : Place} {line : ℕ} → Passes old line new → line ≡ (head old.tokens).line
+line_of_head h = h.same ∙ ap (λ ts. (head ts).line) (sym h.tokens)
+
+-- behind a token that is passed
+pub skips : {A X : Type 0} {view : List ℕ → X → A} {q : ℕ → Prog A} {least : ℕ} {old middle new : Place} {line : ℕ}
+    {result : Result X Stop} → Passes old line middle → length old.tokens ≤ least → Parses q view middle result new
+    → ParsesIn least (λ most. skip (q most)) view old result new
+skips {view = view} {q = q} {least = least} {old = old} {middle = middle} {new = new} {result = result} h enough rest =
+    let count : length old.tokens ≡ suc (length middle.tokens) = ap length h.tokens in
+    record {
+      gives = λ most turns.
+          subst (λ ts. Gives (view old.spellings) result new.tokens (run (skip (q most)) ts)) (sym h.tokens)
+          (subst (λ s. Gives (view s) result new.tokens (run (q most) middle.tokens)) h.spellings
+          (rest.gives most (omega (arith, turns, enough, count))));
+      shorter = omega (arith, count, rest.shorter);
+      taken = rest.taken ∙ omega (arith, count, h.taken);
+      spellings = rest.spellings ∙ h.spellings;
+    }
+
+-- what was read, with no memory to keep it
+pub kept_no_memory : {A X Y : Type 0} {view : List ℕ → X → A} {seen : List ℕ → Y → A} {p : ℕ → Prog A} {least : ℕ}
+    {old new : Place} {x : X} → ParsesIn least p view old (Ok x) new
+    → ParsesIn least p seen old (Err stop.OutOfMemory) new
+kept_no_memory h =
+    record { gives = λ most enough. tt; shorter = h.shorter; taken = h.taken; spellings = h.spellings }
+
+-- a reader that takes no turns
+pub any_turns : {A X : Type 0} {view : List ℕ → X → A} (p : Prog A) {least more : ℕ} {old new : Place}
+    {result : Result X Stop} → ParsesIn least (λ most. p) view old result new
+    → ParsesIn more (λ most. p) view old result new
+any_turns p {least = least} h = record {
+  gives = λ most enough. h.gives least (omega arith);
+  shorter = h.shorter;
+  taken = h.taken;
+  spellings = h.spellings;
+}
+
+-- a part of Pascal that is left out
+pub refuses : {A X : Type 0} {view : List ℕ → X → A} {part least : ℕ} {old : Place} {why : Stop}
+    → why ≡ stop.LeftOut part → ParsesIn least (λ most. fail (shown part)) view old (Err why) old
+refuses {view = view} {part = part} {least = least} {old = old} is =
+    subst (λ why. ParsesIn least (λ most. fail (shown part)) view old (Err why) old) (sym is) is_left_out
+
+-- a name is a token
+ident_at_further : (t : Token) (ts us : List Token) (name : Ident) (kind : Kind) (payload : Payload) (line : ℕ)
+    → run (ident_at kind payload line) (t ∷ ts) ≡ Ok (name, us) → length us < length (t ∷ ts)
+ident_at_further t ts us name k.Name (spelling bytes) line e =
+    omega (arith, ap (λ r. length (rest_of r)) e)
+ident_at_further t ts us name kind payload line e = absurd cc
+
+ident_runs_further : (ts us : List Token) (name : Ident) → run ident ts ≡ Ok (name, us) → length us < length ts
+ident_runs_further [] us name e = absurd cc
+ident_runs_further (t ∷ ts) us name e = ident_at_further t ts us name t.kind t.payload t.line e
+
+pub ident_further : {old new : Place} {name : CodeIdent} → Parses (λ most. ident) ident_in old (Ok name) new
+    → length new.tokens < length old.tokens
+ident_further {old = old} {new = new} {name = name} h =
+    ident_runs_further old.tokens new.tokens (ident_in old.spellings name) (h.gives (suc (length old.tokens)) (omega
+    arith))
+
+-- the same tree, as another view shows it
+pub seen_as : {A X Y : Type 0} {view : List ℕ → X → A} {seen : List ℕ → Y → A} {p : ℕ → Prog A} {least : ℕ}
+    {old new : Place} {x : X} {y : Y} → ((spellings : List ℕ) → view spellings x ≡ seen spellings y)
+    → ParsesIn least p view old (Ok x) new → ParsesIn least p seen old (Ok y) new
+seen_as {old = old} {new = new} same h = record {
+  gives = λ most enough. h.gives most enough ∙ ap (λ a. Ok (a, new.tokens)) (same old.spellings);
+  shorter = h.shorter;
+  taken = h.taken;
+  spellings = h.spellings;
+}
+
+-- why reading stops does not depend on how trees are seen
+pub still_stops : {A X Y : Type 0} {view : List ℕ → X → A} {seen : List ℕ → Y → A} {p : ℕ → Prog A} {least : ℕ}
+    {old new : Place} {why : Stop} → ParsesIn least p view old (Err why) new → ParsesIn least p seen old (Err why) new
+still_stops h = record { gives = h.gives; shorter = h.shorter; taken = h.taken; spellings = h.spellings }

@@ -91,7 +91,6 @@ stopped_by p q ts us rest stop.OutOfMemory g h same = tt
 stopped_by p q ts us rest stop.Misplaced g h same = same (Err (misplaced, rest)) h (λ rest e. subst is_spent (sym (ap why_of e)) tt)
 stopped_by p q ts us rest (stop.LeftOut part) g h same = same (Err (shown part, rest)) h (λ rest e. subst is_spent (sym (ap why_of e)) tt)
 
-
 -- the loop goes on
 module _ {A X : Type 0} {whole : ℕ → Prog A} {next : ℕ → A → Kind → Payload → ℕ → Next A} {view : List ℕ → X → A} where
   pub turned : {old now new : Place} {found : A} {x : X} → SoFar whole next old now found

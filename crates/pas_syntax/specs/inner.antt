@@ -8,3 +8,4 @@ pub mod TypeReaders
 pub mod StatementReaders
 pub mod DeclarationReaders
 pub mod StatementViews
+pub mod TypeViews

@@ -1,5 +1,5 @@
 //! How expressions are read.
-ghost use Rattle.std.specs.Prelude.{◌≡◌, ◌<◌, ◌+◌, max, length, Ok, IfOk, OnOk};
+ghost use Rattle.std.specs.Prelude.{◌≡◌, ◌≤◌, ◌<◌, ◌+◌, ◌-◌, max, length, Ok, IfOk, OnOk};
 ghost use Rattle.pas_tokens.specs.declared.kinds.Kind.TheVariants as k;
 ghost use Rattle.wb_base.specs.declared.faults.TheConstants.{REAL_NUMBERS, SETS};
 ghost use Rattle.pas_syntax.specs.declared.limits.TheConstants.{NESTING_LIMIT};
@@ -9,8 +9,8 @@ ghost use Rattle.pas_syntax.specs.Words.{depth_of, sum_depth, term_depth, factor
 ghost use Rattle.pas_syntax.specs.Views.{lined_in, ident_in, expr_in, sum_in, term_in, factor_in, variable_in};
 ghost use Rattle.pas_syntax.specs.Views.{selector_in, exprs_in, call_in};
 ghost use Rattle.pas_syntax.specs.inner.Prog.{head, look, bind, a_turn};
-ghost use Rattle.pas_syntax.specs.inner.Places.{Parses, ParsesIn};
-ghost use Rattle.pas_syntax.specs.inner.Deeps.{of_deep, HasDepth, Makes, IsRefused};
+ghost use Rattle.pas_syntax.specs.inner.Places.{Fits, Parses, ParsesIn};
+ghost use Rattle.pas_syntax.specs.inner.Deeps.{of_deep, HasDepth, Makes, IsRefused, BeginsSelector};
 ghost use Rattle.pas_syntax.specs.inner.Readers as spec;
 
 use crate::depth::{Deep, Depth};
@@ -284,7 +284,8 @@ fn function_call(
     depth: Depth,
     name: Ident,
 ) -> Result<Deep<FunctionCall>, Stop>
-    requires { k.LeftParenthesis ≡ (head reader.old.tokens).kind }
+    requires opens { k.LeftParenthesis ≡ (head reader.old.tokens).kind }
+    requires fits { Fits (head reader.old.tokens).kind (head reader.old.tokens).payload }
     ensures value { Parses (λ m. look (spec.behind_name (spec.factor m) m depth.forms depth.operators
         (ident_in reader.old.spellings name))) (of_deep call_in) reader.old result reader.new }
     ensures depth { IfOk result (λ found. HasDepth depth.operators found.depth (factor_depth (call_in reader.old.spellings found.tree))) }
@@ -338,11 +339,13 @@ pub(crate) fn variable(
 // Reads `"[" expr {"," expr} "]" | "." id | "^"`.
 #[cycle(expression)]
 fn selector(alloc: Global, reader: &mut Reader<'_>, depth: Depth) -> Result<Deep<Selector>, Stop>
+    requires { BeginsSelector (head reader.old.tokens).kind }
     ensures value { (v : VariableTree) → Parses
         (λ m. a_turn (spec.behind_variable (spec.factor m) m depth.forms depth.operators) v)
         (λ spellings found. selector_in spellings found.tree v) reader.old result reader.new }
-    ensures depth { IfOk result (λ found. (v : VariableTree) → HasDepth depth.operators (max (variable_depth v) found.depth)
-        (variable_depth (selector_in reader.old.spellings found.tree v))) }
+    ensures depth { IfOk result (λ found. (v : VariableTree)
+        → variable_depth (selector_in reader.old.spellings found.tree v) ≡ max (variable_depth v) found.depth) }
+    ensures few { IfOk result (λ found. found.depth ≤ NESTING_LIMIT - depth.operators) }
     ensures further { OnOk result (length reader.new.tokens < length reader.old.tokens) }
 {
     match reader.kind() {

@@ -1,4 +1,15 @@
 //! How types are read.
+ghost use Rattle.std.specs.Prelude.{◌≡◌, ◌+◌, ℕ, length};
+ghost use Rattle.pas_tokens.specs.declared.kinds.Kind.TheVariants as k;
+ghost use Rattle.pas_syntax.specs.Views.{ident_in, constant_in, simple_in, separated_in};
+ghost use Rattle.pas_syntax.specs.ProgramViews.{type_in};
+ghost use Rattle.pas_syntax.specs.inner.Prog.{head, look, skip, bind};
+ghost use Rattle.pas_syntax.specs.inner.Marks.{mark};
+ghost use Rattle.pas_syntax.specs.inner.Readers.{ident as ident_reader};
+ghost use Rattle.pas_syntax.specs.inner.Places.{Fits, Parses, ParsesIn, same};
+ghost use Rattle.pas_syntax.specs.inner.StatementReaders.{with_line};
+ghost use Rattle.pas_syntax.specs.inner.TypeReaders as spec;
+ghost use Rattle.pas_syntax.specs.inner.TypeViews.{IsLeftOut, array_head_in, record_in, group_in};
 
 use crate::constants::constant;
 use crate::depth::Depth;
@@ -19,7 +30,9 @@ pub(crate) fn type_form(
     alloc: Global,
     reader: &mut Reader<'_>,
     depth: Depth,
-) -> Result<TypeForm, Stop> {
+) -> Result<TypeForm, Stop>
+    ensures { Parses (λ m. spec.type_form m depth.forms) type_in reader.old result reader.new }
+{
     match reader.kind() {
         Kind::Packed => {
             let packed = Some(reader.pass());
@@ -37,27 +50,64 @@ fn structured(
     reader: &mut Reader<'_>,
     depth: Depth,
     packed: Option<u32>,
-) -> Result<TypeForm, Stop> {
+) -> Result<TypeForm, Stop>
+    ensures { ParsesIn (length reader.old.tokens)
+        (λ m. look (spec.structured_at (spec.type_form m) m depth.forms packed)) type_in reader.old result reader.new }
+{
     match reader.kind() {
-        Kind::Array => {
-            let inner = depth.in_form()?;
-            let head = array_head(alloc, reader, inner, packed)?;
-            let element = type_form(alloc, reader, inner)?;
-            Ok(TypeForm::Array(Boxed::new(alloc, head)?, Boxed::new(alloc, element)?))
-        }
+        Kind::Array => array_form(alloc, reader, depth, packed),
         Kind::Record => {
             let inner = depth.in_form()?;
             let form = record_form(alloc, reader, inner, packed)?;
             Ok(TypeForm::Record(Boxed::new(alloc, form)?))
         }
-        Kind::File => {
-            let inner = depth.in_form()?;
-            let head = file_head(reader, packed)?;
-            let component = type_form(alloc, reader, inner)?;
-            Ok(TypeForm::File(head, Boxed::new(alloc, component)?))
-        }
+        Kind::File => file_form(alloc, reader, depth, packed),
         _ => Err(Stop::Misplaced),
     }
+}
+
+// Reads an array type behind `packed`, if that is there.
+#[cycle(type_form)]
+fn array_form(
+    alloc: Global,
+    reader: &mut Reader<'_>,
+    depth: Depth,
+    packed: Option<u32>,
+) -> Result<TypeForm, Stop>
+    requires { k.Array ≡ (head reader.old.tokens).kind }
+    ensures { ParsesIn (length reader.old.tokens)
+        (λ m. with_line (λ line. spec.array_by (spec.type_form m) m depth.forms packed line)) type_in reader.old result
+        reader.new }
+{
+    let inner = depth.in_form()?;
+    let head = array_head(alloc, reader, inner, packed)?;
+    let element = type_form(alloc, reader, inner)?;
+    Ok(TypeForm::Array(Boxed::new(alloc, head)?, Boxed::new(alloc, element)?))
+}
+
+// Reads a file type behind `packed`, if that is there.
+#[cycle(type_form)]
+fn file_form(
+    alloc: Global,
+    reader: &mut Reader<'_>,
+    depth: Depth,
+    packed: Option<u32>,
+) -> Result<TypeForm, Stop>
+    requires { k.File ≡ (head reader.old.tokens).kind }
+    ensures { ParsesIn (length reader.old.tokens)
+        (λ m. with_line (λ line. spec.file_by (spec.type_form m) m depth.forms packed line)) type_in reader.old result
+        reader.new }
+{
+    let inner = depth.in_form()?;
+    let line = reader.pass();
+    let of_line = reader.take(Kind::Of)?;
+    let component = type_form(alloc, reader, inner)?;
+    let head = FileHead {
+        packed,
+        line,
+        of_line,
+    };
+    Ok(TypeForm::File(head, Boxed::new(alloc, component)?))
 }
 
 // Reads `"array" "[" simple {"," simple} "]" "of"`.
@@ -66,7 +116,12 @@ fn array_head(
     reader: &mut Reader<'_>,
     depth: Depth,
     packed: Option<u32>,
-) -> Result<ArrayHead, Stop> {
+) -> Result<ArrayHead, Stop>
+    requires { k.Array ≡ (head reader.old.tokens).kind }
+    ensures { (outer : ℕ) → depth.forms ≡ outer + 1 → ParsesIn (length reader.old.tokens)
+        (λ m. with_line (λ line. skip (spec.array_start_by m outer packed line))) array_head_in reader.old result
+        reader.new }
+{
     let line = reader.pass();
     let opened = open_indexes(reader, depth)?;
     let indexes = simples(alloc, reader)?;
@@ -83,7 +138,10 @@ fn array_head(
 }
 
 // Reads the bracket that opens the indexes of an array type.
-fn open_indexes(reader: &mut Reader<'_>, depth: Depth) -> Result<u32, Stop> {
+fn open_indexes(reader: &mut Reader<'_>, depth: Depth) -> Result<u32, Stop>
+    ensures { (outer : ℕ) → depth.forms ≡ outer + 1
+        → Parses (λ _. look (spec.open_at (outer + 2))) same reader.old result reader.new }
+{
     match reader.kind() {
         Kind::LeftBracket => {
             depth.in_form()?;
@@ -93,17 +151,6 @@ fn open_indexes(reader: &mut Reader<'_>, depth: Depth) -> Result<u32, Stop> {
     }
 }
 
-// Reads `"file" "of"`.
-fn file_head(reader: &mut Reader<'_>, packed: Option<u32>) -> Result<FileHead, Stop> {
-    let line = reader.pass();
-    let of_line = reader.take(Kind::Of)?;
-    Ok(FileHead {
-        packed,
-        line,
-        of_line,
-    })
-}
-
 // Reads `"record" ids ":" type {";" ids ":" type} [";"] "end"`.
 #[cycle(type_form)]
 fn record_form(
@@ -111,7 +158,12 @@ fn record_form(
     reader: &mut Reader<'_>,
     depth: Depth,
     packed: Option<u32>,
-) -> Result<RecordForm, Stop> {
+) -> Result<RecordForm, Stop>
+    requires { k.Record ≡ (head reader.old.tokens).kind }
+    ensures { ParsesIn (length reader.old.tokens)
+        (λ m. with_line (λ line. spec.record_body (spec.type_form m) m depth.forms packed line)) record_in reader.old
+        result reader.new }
+{
     let line = reader.pass();
     let first = field_group(alloc, reader, depth)?;
     let mut more = Items::new(alloc);
@@ -141,7 +193,9 @@ fn record_form(
 
 // Reads `ids ":" type`.
 #[cycle(type_form)]
-fn field_group(alloc: Global, reader: &mut Reader<'_>, depth: Depth) -> Result<FieldGroup, Stop> {
+fn field_group(alloc: Global, reader: &mut Reader<'_>, depth: Depth) -> Result<FieldGroup, Stop>
+    ensures { Parses (λ m. spec.group_by (spec.type_form m) m depth.forms) group_in reader.old result reader.new }
+{
     let names = idents(alloc, reader)?;
     let colon = reader.take(Kind::Colon)?;
     let form = type_form(alloc, reader, depth)?;
@@ -149,17 +203,18 @@ fn field_group(alloc: Global, reader: &mut Reader<'_>, depth: Depth) -> Result<F
 }
 
 // Reads `id {"," id}`.
-pub(crate) fn idents(alloc: Global, reader: &mut Reader<'_>) -> Result<Idents, Stop> {
+pub(crate) fn idents(alloc: Global, reader: &mut Reader<'_>) -> Result<Idents, Stop>
+    ensures { Parses (λ m. spec.idents_by m) (λ spellings. separated_in (ident_in spellings)) reader.old result
+        reader.new }
+{
     let first = reader.ident()?;
     let mut more = Items::new(alloc);
     'more: loop {
         match reader.kind() {
             Kind::Comma => {
                 let line = reader.pass();
-                more.push(Behind {
-                    line,
-                    item: reader.ident()?,
-                })?;
+                let item = reader.ident()?;
+                more.push(Behind { line, item })?;
             }
             _ => return Ok(Separated { first, more }),
         }
@@ -167,17 +222,18 @@ pub(crate) fn idents(alloc: Global, reader: &mut Reader<'_>) -> Result<Idents, S
 }
 
 // Reads `simple {"," simple}`.
-fn simples(alloc: Global, reader: &mut Reader<'_>) -> Result<Separated<Simple>, Stop> {
+fn simples(alloc: Global, reader: &mut Reader<'_>) -> Result<Separated<Simple>, Stop>
+    ensures { Parses (λ m. spec.items_by spec.simple m) (λ spellings. separated_in (simple_in spellings)) reader.old
+        result reader.new }
+{
     let first = simple(reader)?;
     let mut more = Items::new(alloc);
     'more: loop {
         match reader.kind() {
             Kind::Comma => {
                 let line = reader.pass();
-                more.push(Behind {
-                    line,
-                    item: simple(reader)?,
-                })?;
+                let item = simple(reader)?;
+                more.push(Behind { line, item })?;
             }
             _ => return Ok(Separated { first, more }),
         }
@@ -185,15 +241,11 @@ fn simples(alloc: Global, reader: &mut Reader<'_>) -> Result<Separated<Simple>, 
 }
 
 // Reads `id | const ".." const`.
-fn simple(reader: &mut Reader<'_>) -> Result<Simple, Stop> {
+fn simple(reader: &mut Reader<'_>) -> Result<Simple, Stop>
+    ensures { Parses (λ _. spec.simple) simple_in reader.old result reader.new }
+{
     match reader.kind() {
-        Kind::Name => {
-            let name = reader.ident()?;
-            match reader.kind() {
-                Kind::Dots => range(reader, Constant::Named(None, name)),
-                _ => Ok(Simple::Named(name)),
-            }
-        }
+        Kind::Name => named_simple(reader),
         _ => {
             not_left_out(reader)?;
             let low = constant(reader)?;
@@ -202,10 +254,26 @@ fn simple(reader: &mut Reader<'_>) -> Result<Simple, Stop> {
     }
 }
 
+// Reads `id [".." const]`.
+fn named_simple(reader: &mut Reader<'_>) -> Result<Simple, Stop>
+    ensures { Parses (λ _. bind ident_reader (λ name. look (spec.behind_simple_name name))) simple_in reader.old result
+        reader.new }
+{
+    let name = reader.ident()?;
+    match reader.kind() {
+        Kind::Dots => range(reader, Constant::Named(None, name)),
+        _ => Ok(Simple::Named(name)),
+    }
+}
+
 // Reads `".." const` behind a lower bound.
-fn range(reader: &mut Reader<'_>, low: Constant) -> Result<Simple, Stop> {
+fn range(reader: &mut Reader<'_>, low: Constant) -> Result<Simple, Stop>
+    ensures { Parses (λ _. spec.range_by (constant_in reader.old.spellings low)) simple_in reader.old result
+        reader.new }
+{
     let line = reader.take(Kind::Dots)?;
-    Ok(Simple::Range(low, line, constant(reader)?))
+    let high = constant(reader)?;
+    Ok(Simple::Range(low, line, high))
 }
 
 // Reads the name of a type.
@@ -215,7 +283,9 @@ pub(crate) fn type_name(reader: &mut Reader<'_>) -> Result<Ident, Stop> {
 }
 
 // Refuses what is left out where a type may stand.
-fn not_left_out(reader: &Reader<'_>) -> Result<(), Stop> {
+fn not_left_out(reader: &Reader<'_>) -> Result<(), Stop>
+    ensures { IsLeftOut (head reader.now.tokens).kind result }
+{
     match reader.kind() {
         Kind::LeftParenthesis => Err(Stop::LeftOut(ENUMERATIONS)),
         Kind::Set => Err(Stop::LeftOut(SETS)),

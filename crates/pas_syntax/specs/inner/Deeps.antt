@@ -1,7 +1,8 @@
 -- How deep a place lies, and how deep an expression is.
-use Rattle.std.specs.Prelude.{◌≡◌, ℕ, ◌+◌, ◌-◌, ◌≤◌, nat_lt, true, false, List, Result, Ok, Err}
+use Rattle.std.specs.Prelude.{◌≡◌, ℕ, ◌+◌, ◌-◌, ◌≤◌, nat_lt, true, false, List, Result, Ok, Err, ⊤}
 use Rattle.wb_base.specs.declared.faults.TheConstants.{NESTING_PAST_LIMIT}
 use Rattle.pas_tokens.specs.declared.kinds.Kind.{Kind}
+use Rattle.pas_tokens.specs.declared.kinds.Kind.TheVariants as k
 use Rattle.pas_syntax.specs.declared.limits.TheConstants.{NESTING_LIMIT}
 use Rattle.pas_syntax.specs.declared.depth.Depth.{Depth}
 use Rattle.pas_syntax.specs.declared.depth.Deep.{Deep}
@@ -40,3 +41,10 @@ Makes view (Err why) make = why ≡ OutOfMemory
 abbrev pub IsRefused : {X : Type 0} → Kind → ℕ → Kind → Result X Stop → Type 0
 IsRefused refused part kind (Ok found) = refused ≡ kind → ⊥
 IsRefused refused part kind (Err why) = (refused ≡ kind) × (why ≡ LeftOut part)
+
+-- a token of this kind selects a part of a variable
+abbrev pub BeginsSelector : Kind → Type 0
+BeginsSelector k.LeftBracket = ⊤
+BeginsSelector k.Dot = ⊤
+BeginsSelector k.Caret = ⊤
+BeginsSelector kind = ⊥

@@ -65,6 +65,9 @@ abbrev pub range_at : Constant → Kind → Payload → ℕ → Prog Simple
 range_at low k.Dots nothing line = skip (bind constant (λ high. done (tree.range low line high)))
 range_at low kind payload line = fail misplaced
 
+abbrev pub range_by : Constant → Prog Simple
+range_by low = bind (mark k.Dots) (λ line. bind constant (λ high. done (tree.range low line high)))
+
 abbrev pub behind_simple_name : Ident → Kind → Payload → ℕ → Prog Simple
 behind_simple_name name k.Dots nothing line =
     skip (bind constant (λ high. done (tree.range (tree.named None name) line high)))
@@ -169,6 +172,12 @@ module _ (form : ℕ → Prog TypeForm) (most : ℕ) where
   record_by n packed line =
       in_form (n + 1) (skip (bind (fields_by (n + 1)) (λ found. bind (mark k.End)
       (λ end. done (tree.record_type packed line found.fields found.semicolon end)))))
+
+  -- the same behind `record`, where that form is open
+  abbrev pub record_body : ℕ → Option ℕ → ℕ → Prog TypeForm
+  record_body n packed line =
+      skip (bind (fields_by n) (λ found. bind (mark k.End)
+      (λ end. done (tree.record_type packed line found.fields found.semicolon end))))
 
   abbrev pub structured_at : ℕ → Option ℕ → Kind → Payload → ℕ → Prog TypeForm
   structured_at n packed k.Array nothing line = array_by n packed line

@@ -46,7 +46,7 @@ decreases-variable l = room l.depth.forms l.depth.operators + 1
 abbrev pub invariant-exprs-more : goal.invariant-exprs-more
 invariant-exprs-more l =
     let found = in_turn (tree.first_expr (expr_in l.fn.reader.spellings l.first.tree))
-        (map (more_expr_in l.fn.reader.spellings) l.more) in record {
+    (map (more_expr_in l.fn.reader.spellings) l.more) in record {
       so_far : SoFar (λ m. spec.exprs m l.depth.forms l.depth.operators)
           (λ m. spec.behind_expr (spec.factor m) m l.depth.forms l.depth.operators) l.fn.reader l.reader found;
       depth : HasDepth l.depth.operators l.deepest (exprs_depth found);
@@ -80,7 +80,7 @@ decreases-term-more l = length l.reader.tokens
 abbrev pub invariant-variable-more : goal.invariant-variable-more
 invariant-variable-more l =
     let found = in_turn (tree.whole (ident_in l.fn.reader.spellings l.name))
-        (map (selector_in l.fn.reader.spellings) l.selectors) in record {
+    (map (selector_in l.fn.reader.spellings) l.selectors) in record {
       so_far : SoFar (λ m. spec.variable m l.depth.forms l.depth.operators (ident_in l.fn.reader.spellings l.name))
           (λ m. spec.behind_variable (spec.factor m) m l.depth.forms l.depth.operators) l.fn.reader l.reader found;
       depth : HasDepth l.depth.operators l.deepest (variable_depth found);

@@ -1,0 +1,12 @@
+use Rattle.std.proofs.Common.{◌≡◌, ◌∙◌, refl, sym, ap, arith}
+use Rattle.std.proofs.lemmas.Result.{err_from_is_err_and}
+use Rattle.pas_syntax.specs.Tree as tree
+use Rattle.pas_syntax.specs.inner.Prog.{done}
+use Rattle.pas_syntax.proofs.PlaceLemmas.{returned, goes_as, goes_on, stops, answers}
+use Rattle.pas_syntax.proofs.ConstantSteps.{string_goes, signed_constant}
+use Rattle.pas_syntax.proofs.constants.constant.Goals as goal
+
+pub returns-in_default : goal.returns-in_default
+returns-in_default c =
+    signed_constant c.sign-sign.result (λ e. c.in_default.not-Text (c.kind.ensures.kind ∙ sym e)) c.sign-sign.ensures
+    (omega arith) c.unsigned.ensures
