@@ -32,3 +32,5 @@ pub mod ExprViews
 pub mod ExprSteps
 pub mod ItemSteps
 pub mod ConstantSteps
+pub mod StatementSeen
+pub mod StatementSteps
