@@ -47,7 +47,7 @@ module _ {A : Type 0} (n : ℕ) (words : A → List Word) where
 
   module _ (fits : n ≤ NESTING_LIMIT) (item : Prog A) where
     module _ (h : Reads IsItem Any item) (some : A) where
-      begins_items : (found : Separated A) (us : List Word) → AreItems found us
+      pub begins_items : (found : Separated A) (us : List Word) → AreItems found us
           → (kind : Kind) (payload : Payload) (line : ℕ)
           → Begins AreItems us (a_token kind payload line) (behind_item item found kind payload line)
       begins_items found us is k.Comma nothing line = (

@@ -21,9 +21,17 @@ pub mod StatementReaches
 pub mod PlaceLemmas
 pub mod SoFar
 pub mod PlaceSteps
+pub mod TypeReaches
+pub mod DeclarationReads
+pub mod ProgramReads
+pub mod DeclarationReaches
+pub mod ProgramReaches
+pub mod Conclusions
 pub mod DeepLemmas
 pub mod ExprViews
 pub mod ExprSteps
 pub mod ItemSteps
 pub mod ConstantSteps
 pub mod TokenLemmas
+pub mod StatementSeen
+pub mod StatementSteps

@@ -83,14 +83,18 @@ module _ (n : ℕ) (fits : n ≤ NESTING_LIMIT) where
       ∙ reaches_skip (done line) (at n wanted line) [] (Ok (line, rest)) rest (sound_says n wanted nothing line fits)
       refl
 
+  pub reaches_maybe_there : (wanted : Kind) (line : ℕ) (rest : List Token)
+      → Reaches (maybe_mark wanted) (at n wanted line ∷ []) (Ok (Some line, rest)) rest
+  reaches_maybe_there wanted line rest =
+      ap (λ same. run (maybe_if same nothing line) ((at n wanted line).token ∷ rest)) (same_itself wanted)
+      ∙ reaches_skip (done (Some line)) (at n wanted line) [] (Ok (Some line, rest)) rest
+      (sound_says n wanted nothing line fits) refl
+
   pub reaches_maybe : (wanted : Kind) (found : Option ℕ) (rest : List Token) → (wanted ≡ (head rest).kind → ⊥)
       → Reaches (maybe_mark wanted) (maybe n wanted found) (Ok (found, rest)) rest
   reaches_maybe wanted None rest other =
       ap (λ same. run (maybe_if same (head rest).payload (head rest).line) rest) (not_same wanted (head rest).kind other)
-  reaches_maybe wanted (Some line) rest other =
-      ap (λ same. run (maybe_if same nothing line) ((at n wanted line).token ∷ rest)) (same_itself wanted)
-      ∙ reaches_skip (done (Some line)) (at n wanted line) [] (Ok (Some line, rest)) rest
-      (sound_says n wanted nothing line fits) refl
+  reaches_maybe wanted (Some line) rest other = reaches_maybe_there wanted line rest
 
   pub reaches_ident : (name : Ident) (rest : List Token)
       → Reaches ident (name_at n name ∷ []) (Ok (name, rest)) rest

@@ -105,7 +105,7 @@ module _ {A : Type 0} (n : ℕ) (words : A → List Word) where
     items_end [] rest end = end
     items_end (next ∷ items) rest end = comma
 
-    reaches_items_on : (items : List (Behind A)) (found : Separated A) (left_turns : ℕ) (r : Out (Separated A))
+    pub reaches_items_on : (items : List (Behind A)) (found : Separated A) (left_turns : ℕ) (r : Out (Separated A))
         (rest : List Token) → length (flat_map (behind_words n words) items) < most → Ends (head rest).kind
         → Reaches (turns (behind_item item) left_turns
         (record { first = found.first; more = found.more ++ items })) [] r rest

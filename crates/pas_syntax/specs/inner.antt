@@ -6,5 +6,6 @@ pub mod Readers
 pub mod Marks
 pub mod TypeReaders
 pub mod StatementReaders
+pub mod DeclarationReaders
 pub mod StatementViews
 pub mod TypeViews
