@@ -35,3 +35,4 @@ pub mod ConstantSteps
 pub mod TokenLemmas
 pub mod StatementSeen
 pub mod StatementSteps
+pub mod TypeSteps
