@@ -1,5 +1,6 @@
 -- How the readers of expressions go at each kind of token.
-use Rattle.std.proofs.Common.{◌≡◌, refl, sym, ap, subst, ◌∙◌, ℕ, zero, suc, ◌+◌, ◌≤◌, ◌<◌, arith, Bool, true, false, List, [], ◌∷◌}
+use Rattle.std.proofs.Common.{◌≡◌, refl, sym, ap, subst, ◌∙◌, ℕ, zero, suc, ◌+◌, ◌≤◌, ◌<◌, arith, Bool, true, false}
+use Rattle.std.proofs.Common.{List, [], ◌∷◌}
 use Rattle.std.proofs.Common.{length, Result, Ok, Err}
 use Rattle.std.specs.Prelude.{nat_lt}
 use Rattle.wb_base.specs.declared.faults.TheConstants.{REAL_NUMBERS, SETS, POINTERS}
@@ -27,8 +28,10 @@ use Rattle.pas_syntax.specs.inner.Places.{Place, IsPlain, Fits, Gives, Parses, P
 use Rattle.pas_syntax.specs.inner.Deeps.{BeginsSelector}
 use Rattle.pas_syntax.specs.inner.Readers.{expr_by, exprs_by, indexes_by}
 use Rattle.pas_syntax.specs.inner.StatementReaders.{numeral, numeral_at}
-use Rattle.pas_syntax.specs.inner.Readers.{unless, turn_unless, ident, ident_at, quoted, quoted_at, behind_sum, related_by}
-use Rattle.pas_syntax.specs.inner.Readers.{behind_term, term_by, behind_factor, first_term_at, signed_by, factor_at, factor, expr, exprs, variable}
+use Rattle.pas_syntax.specs.inner.Readers.{unless, turn_unless, ident, ident_at, quoted, quoted_at, behind_sum}
+use Rattle.pas_syntax.specs.inner.Readers.{related_by}
+use Rattle.pas_syntax.specs.inner.Readers.{behind_term, term_by, behind_factor, first_term_at, signed_by, factor_at}
+use Rattle.pas_syntax.specs.inner.Readers.{factor, expr, exprs, variable}
 use Rattle.pas_syntax.specs.inner.Readers.{parenthesized_by, negated_by, named_by, behind_name, call_by, variable_by}
 use Rattle.pas_syntax.specs.inner.Readers.{behind_expr, behind_variable, right_parenthesis_at, right_bracket_at}
 use Rattle.pas_syntax.specs.inner.Marks.{mark, mark_at}

@@ -24,7 +24,8 @@ use Rattle.pas_syntax.specs.declared.tree.Selector.TheVariants as selector
 use Rattle.pas_syntax.specs.declared.tree.Expr.TheOpen.{Expr-F, Sum-F, Term-F, Factor-F, Selector-F, Exprs-F}
 use Rattle.pas_syntax.specs.declared.tree.Expr.TheOpen.{FunctionCall-F, MoreExpr-F, Variable-F}
 use Rattle.pas_syntax.specs.declared.tree.Expr.TheViews.{roll-FunctionCall, roll-MoreExpr, roll-Variable, roll-Exprs}
-use Rattle.pas_syntax.specs.declared.tree.Expr.TheFolds.{fold-roll-Expr, fold-roll-Sum, fold-roll-Term, fold-roll-Factor}
+use Rattle.pas_syntax.specs.declared.tree.Expr.TheFolds.{fold-roll-Expr, fold-roll-Sum, fold-roll-Term}
+use Rattle.pas_syntax.specs.declared.tree.Expr.TheFolds.{fold-roll-Factor}
 use Rattle.pas_syntax.specs.declared.tree.Expr.TheFolds.{fold-roll-Variable, fold-roll-Selector, fold-roll-Exprs}
 use Rattle.pas_syntax.specs.declared.tree.Expr.TheFolds.{fold-roll-FunctionCall, fold-roll-MoreExpr}
 use Rattle.pas_syntax.specs.Tree as tree

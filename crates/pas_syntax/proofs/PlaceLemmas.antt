@@ -1,7 +1,8 @@
 -- How what functions read goes together, and by which reader of the definition.
 use denote.Enum.Bare.{sameb, same_true, true_same, false_same}
 use Rattle.pas_tokens.specs.contracts.kinds.Kind.{the_type}
-use Rattle.std.proofs.Common.{Bool, true, false, ◌≡◌, ◌≢◌, refl, sym, ap, subst, ◌∙◌, ℕ, zero, suc, ◌+◌, ◌≤◌, arith, List, [], ◌∷◌, ◌++◌}
+use Rattle.std.proofs.Common.{Bool, true, false, ◌≡◌, ◌≢◌, refl, sym, ap, subst, ◌∙◌, ℕ, zero, suc, ◌+◌, ◌≤◌, arith}
+use Rattle.std.proofs.Common.{List, [], ◌∷◌, ◌++◌}
 use Rattle.std.proofs.Common.{◌-◌, ◌<◌, length, drop, take, Result, Ok, Err, Option, Some, None}
 use Rattle.std.specs.Prelude.{slice_get, ⊤}
 use Rattle.std.proofs.lemmas.List.{length-append, length-drop, drop-drop}

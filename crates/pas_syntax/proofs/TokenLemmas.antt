@@ -1,6 +1,7 @@
 -- What holds of the tokens of every text: each says what fits its kind, the last one alone is the end, and they are
 -- spelled with no more bytes than the text has.
-use Rattle.std.proofs.Common.{◌≡◌, ◌≢◌, ◌∙◌, ℕ, zero, suc, ◌+◌, ◌≤◌, Bool, true, false, cond, List, [], ◌∷◌, ◌++◌, length}
+use Rattle.std.proofs.Common.{◌≡◌, ◌≢◌, ◌∙◌, ℕ, zero, suc, ◌+◌, ◌≤◌, Bool, true, false, cond, List, [], ◌∷◌, ◌++◌}
+use Rattle.std.proofs.Common.{length}
 use Rattle.std.proofs.Common.{take, drop, map, Option, Some, None, Result, Ok, Err, refl, sym, ap, subst, arith}
 use Rattle.std.specs.Prelude.{◌==◌, ◌&&◌, nat_lt, find, option_map}
 use Rattle.std.specs.List.{take_while}
@@ -17,11 +18,13 @@ use Rattle.pas_tokens.specs.declared.kinds.Kind.{Kind}
 use Rattle.pas_tokens.specs.declared.kinds.Kind.TheVariants as k
 use Rattle.pas_tokens.specs.declared.limits.TheConstants.{NAME_LIMIT, GREATEST_NUMBER}
 use Rattle.pas_tokens.specs.Spellings.{Spelling, kind_in, signs_of_one, signs_of_two, reserved_words}
-use Rattle.pas_tokens.specs.Cutting.{Payload, nothing, value, spelling, Cut, Wrong, wrong, named, value_of, is_real_behind}
+use Rattle.pas_tokens.specs.Cutting.{Payload, nothing, value, spelling, Cut, Wrong, wrong, named, value_of}
+use Rattle.pas_tokens.specs.Cutting.{is_real_behind}
 use Rattle.pas_tokens.specs.Cutting.{name_cut, number_cut, is_name_byte, string_by, string_size, sign_cut, token_cut}
 use Rattle.pas_tokens.specs.Cutting.{is_pascal_blank, behind_comment}
 use Rattle.pas_tokens.specs.Tokens.{Token, Front, passes, holds, shows, comment_front, token_front, front_of}
-use Rattle.pas_tokens.specs.Tokens.{begins_comment, within_comment, tokens_by, tokens_from, tokens_of, end_token, line_of}
+use Rattle.pas_tokens.specs.Tokens.{begins_comment, within_comment, tokens_by, tokens_from, tokens_of, end_token}
+use Rattle.pas_tokens.specs.Tokens.{line_of}
 use Rattle.pas_syntax.specs.inner.Prog.{head}
 use Rattle.pas_syntax.specs.inner.Places.{Fits, IsMark, AreTokens, spelled_by, spelled_of}
 

@@ -16,11 +16,13 @@ use Rattle.pas_syntax.specs.declared.tree.MoreFields as code_more
 use Rattle.pas_syntax.specs.declared.tree.TypeForm.TheVariants as form
 use Rattle.pas_syntax.specs.declared.tree.TypeForm.TheOpen.{TypeForm-F, FieldGroup-F, MoreFields-F, RecordForm-F}
 use Rattle.pas_syntax.specs.declared.tree.TypeForm.TheViews.{roll-FieldGroup, roll-RecordForm, roll-MoreFields}
-use Rattle.pas_syntax.specs.declared.tree.TypeForm.TheFolds.{fold-roll-TypeForm, fold-roll-FieldGroup, fold-roll-MoreFields, fold-roll-RecordForm}
+use Rattle.pas_syntax.specs.declared.tree.TypeForm.TheFolds.{fold-roll-TypeForm, fold-roll-FieldGroup}
+use Rattle.pas_syntax.specs.declared.tree.TypeForm.TheFolds.{fold-roll-MoreFields, fold-roll-RecordForm}
 use Rattle.pas_syntax.specs.Tree as tree
 use Rattle.pas_syntax.specs.Tree.{Separated, Simple, TypeForm, Fields}
 use Rattle.pas_syntax.specs.Views.{ident_in, simple_in, separated_in}
-use Rattle.pas_syntax.specs.ProgramViews.{Group as GroupSeen, type_step, group_step, more_fields_step, record_step, type_in}
+use Rattle.pas_syntax.specs.ProgramViews.{Group as GroupSeen, type_step, group_step, more_fields_step, record_step}
+use Rattle.pas_syntax.specs.ProgramViews.{type_in}
 use Rattle.pas_syntax.specs.inner.Prog.{Prog, done, look, skip, bind, run, head, ends, turn_of, a_turn}
 use Rattle.pas_syntax.specs.inner.Places.{Place, Fits, Gives, ParsesIn, Parses}
 use Rattle.pas_syntax.specs.inner.TypeReaders.{type_at, type_form, structured_at, simple, Group, FieldsRead}

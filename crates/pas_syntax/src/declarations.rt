@@ -1,4 +1,12 @@
 //! How declarations are read.
+ghost use Rattle.pas_syntax.specs.Views.{numeral_in, separated_in, if_there};
+ghost use Rattle.pas_syntax.specs.ProgramViews.{labels_in, constant_row_in, type_row_in};
+ghost use Rattle.pas_syntax.specs.inner.Prog.{bind};
+ghost use Rattle.pas_syntax.specs.inner.Places.{Parses};
+ghost use Rattle.pas_syntax.specs.inner.Readers.{ident as ident_reader};
+ghost use Rattle.pas_syntax.specs.inner.TypeReaders.{items_by};
+ghost use Rattle.pas_syntax.specs.inner.StatementReaders.{numeral as numeral_reader};
+ghost use Rattle.pas_syntax.specs.inner.DeclarationReaders as spec;
 
 use crate::constants::constant;
 use crate::depth::Depth;
@@ -30,7 +38,9 @@ pub(crate) fn declarations(alloc: Global, reader: &mut Reader<'_>) -> Result<Dec
 }
 
 // Reads `["label" number {"," number} ";"]`.
-pub(crate) fn labels(alloc: Global, reader: &mut Reader<'_>) -> Result<Option<Labels>, Stop> {
+pub(crate) fn labels(alloc: Global, reader: &mut Reader<'_>) -> Result<Option<Labels>, Stop>
+    ensures { Parses (λ m. spec.labels m) (λ spellings. if_there (labels_in spellings)) reader.old result reader.new }
+{
     match reader.kind() {
         Kind::Label => {
             let line = reader.pass();
@@ -43,17 +53,17 @@ pub(crate) fn labels(alloc: Global, reader: &mut Reader<'_>) -> Result<Option<La
 }
 
 // Reads `number {"," number}`.
-fn numerals(alloc: Global, reader: &mut Reader<'_>) -> Result<Separated<Numeral>, Stop> {
+fn numerals(alloc: Global, reader: &mut Reader<'_>) -> Result<Separated<Numeral>, Stop>
+    ensures { Parses (λ m. items_by numeral_reader m) (λ _. separated_in numeral_in) reader.old result reader.new }
+{
     let first = reader.numeral()?;
     let mut more = Items::new(alloc);
     'more: loop {
         match reader.kind() {
             Kind::Comma => {
                 let line = reader.pass();
-                more.push(Behind {
-                    line,
-                    item: reader.numeral()?,
-                })?;
+                let item = reader.numeral()?;
+                more.push(Behind { line, item })?;
             }
             _ => return Ok(Separated { first, more }),
         }
@@ -79,7 +89,9 @@ fn constant_rows(
 }
 
 // Reads `id "=" const ";"`.
-fn constant_row(reader: &mut Reader<'_>) -> Result<ConstantRow, Stop> {
+fn constant_row(reader: &mut Reader<'_>) -> Result<ConstantRow, Stop>
+    ensures { Parses (λ _. bind ident_reader spec.constant_row_behind) constant_row_in reader.old result reader.new }
+{
     let name = reader.ident()?;
     let equals = reader.take(Kind::Equal)?;
     let value = constant(reader)?;
@@ -108,7 +120,9 @@ fn type_rows(alloc: Global, reader: &mut Reader<'_>) -> Result<Option<Rows<TypeR
 }
 
 // Reads `id "=" type ";"`.
-fn type_row(alloc: Global, reader: &mut Reader<'_>) -> Result<TypeRow, Stop> {
+fn type_row(alloc: Global, reader: &mut Reader<'_>) -> Result<TypeRow, Stop>
+    ensures { Parses (λ m. bind ident_reader (spec.type_row_behind m)) type_row_in reader.old result reader.new }
+{
     let name = reader.ident()?;
     let equals = reader.take(Kind::Equal)?;
     let form = type_form(alloc, reader, Depth::OUTSIDE)?;

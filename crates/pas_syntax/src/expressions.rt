@@ -29,8 +29,10 @@ use wb_base::faults::{POINTERS, REAL_NUMBERS, SETS};
 // Reads `sum [("="|"<>"|"<"|"<="|">"|">=") sum]`.
 #[cycle(expression)]
 pub(crate) fn expr(alloc: Global, reader: &mut Reader<'_>, depth: Depth) -> Result<Deep<Expr>, Stop>
-    ensures value { Parses (λ m. spec.expr m depth.forms depth.operators) (of_deep expr_in) reader.old result reader.new }
-    ensures depth { IfOk result (λ found. HasDepth depth.operators found.depth (depth_of (expr_in reader.old.spellings found.tree))) }
+    ensures value { Parses (λ m. spec.expr m depth.forms depth.operators)
+        (of_deep expr_in) reader.old result reader.new }
+    ensures depth { IfOk result (λ found. HasDepth depth.operators found.depth
+        (depth_of (expr_in reader.old.spellings found.tree))) }
 {
     let left = sum(alloc, reader, depth)?;
     match relation_of(reader.kind()) {
@@ -72,8 +74,10 @@ fn related(
 // Reads `["+"|"-"] term {("+"|"-"|"or") term}`.
 #[cycle(expression)]
 fn sum(alloc: Global, reader: &mut Reader<'_>, depth: Depth) -> Result<Deep<Sum>, Stop>
-    ensures value { Parses (λ m. spec.sum_by (spec.factor m) m depth.forms depth.operators) (of_deep sum_in) reader.old result reader.new }
-    ensures depth { IfOk result (λ found. HasDepth depth.operators found.depth (sum_depth (sum_in reader.old.spellings found.tree))) }
+    ensures value { Parses (λ m. spec.sum_by (spec.factor m) m depth.forms depth.operators)
+        (of_deep sum_in) reader.old result reader.new }
+    ensures depth { IfOk result (λ found. HasDepth depth.operators found.depth
+        (sum_depth (sum_in reader.old.spellings found.tree))) }
 {
     let mut left = first_term(alloc, reader, depth)?;
     'more: loop {
@@ -105,8 +109,10 @@ fn not_in(reader: &Reader<'_>) -> Result<(), Stop>
 // Reads `["+"|"-"] term`.
 #[cycle(expression)]
 fn first_term(alloc: Global, reader: &mut Reader<'_>, depth: Depth) -> Result<Deep<Sum>, Stop>
-    ensures value { Parses (λ m. look (spec.first_term_at (spec.factor m) m depth.forms depth.operators)) (of_deep sum_in) reader.old result reader.new }
-    ensures depth { IfOk result (λ found. HasDepth depth.operators found.depth (sum_depth (sum_in reader.old.spellings found.tree))) }
+    ensures value { Parses (λ m. look (spec.first_term_at (spec.factor m) m depth.forms depth.operators))
+        (of_deep sum_in) reader.old result reader.new }
+    ensures depth { IfOk result (λ found. HasDepth depth.operators found.depth
+        (sum_depth (sum_in reader.old.spellings found.tree))) }
 {
     match sign_of(reader.kind()) {
         Some(sign) => {
@@ -153,8 +159,10 @@ fn added(
 // Reads `factor {("*"|"div"|"mod"|"and") factor}`.
 #[cycle(expression)]
 fn term(alloc: Global, reader: &mut Reader<'_>, depth: Depth) -> Result<Deep<Term>, Stop>
-    ensures value { Parses (λ m. spec.term_by (spec.factor m) m depth.forms depth.operators) (of_deep term_in) reader.old result reader.new }
-    ensures depth { IfOk result (λ found. HasDepth depth.operators found.depth (term_depth (term_in reader.old.spellings found.tree))) }
+    ensures value { Parses (λ m. spec.term_by (spec.factor m) m depth.forms depth.operators)
+        (of_deep term_in) reader.old result reader.new }
+    ensures depth { IfOk result (λ found. HasDepth depth.operators found.depth
+        (term_depth (term_in reader.old.spellings found.tree))) }
 {
     let first = factor(alloc, reader, depth)?;
     let mut left = Deep {
@@ -212,8 +220,10 @@ fn multiplied(
 // Reads `number | string | "(" expr ")" | "not" factor | var | id "(" expr {"," expr} ")"`.
 #[cycle(expression)]
 fn factor(alloc: Global, reader: &mut Reader<'_>, depth: Depth) -> Result<Deep<Factor>, Stop>
-    ensures value { Parses (λ m. spec.factor m depth.forms depth.operators) (of_deep factor_in) reader.old result reader.new }
-    ensures depth { IfOk result (λ found. HasDepth depth.operators found.depth (factor_depth (factor_in reader.old.spellings found.tree))) }
+    ensures value { Parses (λ m. spec.factor m depth.forms depth.operators)
+        (of_deep factor_in) reader.old result reader.new }
+    ensures depth { IfOk result (λ found. HasDepth depth.operators found.depth
+        (factor_depth (factor_in reader.old.spellings found.tree))) }
 {
     match reader.kind() {
         Kind::Number => Ok(shallow(Factor::Literal(reader.numeral()?))),
@@ -255,7 +265,8 @@ fn shallow(tree: Factor) -> Deep<Factor>
 fn named_factor(alloc: Global, reader: &mut Reader<'_>, depth: Depth) -> Result<Deep<Factor>, Stop>
     ensures value { ParsesIn (length reader.old.tokens) (λ m. spec.named_by (spec.factor m) m depth.forms
         depth.operators) (of_deep factor_in) reader.old result reader.new }
-    ensures depth { IfOk result (λ found. HasDepth depth.operators found.depth (factor_depth (factor_in reader.old.spellings found.tree))) }
+    ensures depth { IfOk result (λ found. HasDepth depth.operators found.depth
+        (factor_depth (factor_in reader.old.spellings found.tree))) }
 {
     let name = reader.ident()?;
     match reader.kind() {
@@ -288,7 +299,8 @@ fn function_call(
     requires fits { Fits (head reader.old.tokens).kind (head reader.old.tokens).payload }
     ensures value { Parses (λ m. look (spec.behind_name (spec.factor m) m depth.forms depth.operators
         (ident_in reader.old.spellings name))) (of_deep call_in) reader.old result reader.new }
-    ensures depth { IfOk result (λ found. HasDepth depth.operators found.depth (factor_depth (call_in reader.old.spellings found.tree))) }
+    ensures depth { IfOk result (λ found. HasDepth depth.operators found.depth
+        (factor_depth (call_in reader.old.spellings found.tree))) }
 {
     let inner = depth.in_form()?;
     let opened = reader.pass();
@@ -315,7 +327,8 @@ pub(crate) fn variable(
 ) -> Result<Deep<Variable>, Stop>
     ensures value { Parses (λ m. spec.variable m depth.forms depth.operators (ident_in reader.old.spellings name))
         (of_deep variable_in) reader.old result reader.new }
-    ensures depth { IfOk result (λ found. HasDepth depth.operators found.depth (variable_depth (variable_in reader.old.spellings found.tree))) }
+    ensures depth { IfOk result (λ found. HasDepth depth.operators found.depth
+        (variable_depth (variable_in reader.old.spellings found.tree))) }
 {
     let mut selectors = Items::new(alloc);
     let mut deepest = 0;
@@ -376,8 +389,10 @@ fn selector(alloc: Global, reader: &mut Reader<'_>, depth: Depth) -> Result<Deep
 // Reads `expr {"," expr}`.
 #[cycle(expression)]
 fn exprs(alloc: Global, reader: &mut Reader<'_>, depth: Depth) -> Result<Deep<Exprs>, Stop>
-    ensures value { Parses (λ m. spec.exprs m depth.forms depth.operators) (of_deep exprs_in) reader.old result reader.new }
-    ensures depth { IfOk result (λ found. HasDepth depth.operators found.depth (exprs_depth (exprs_in reader.old.spellings found.tree))) }
+    ensures value { Parses (λ m. spec.exprs m depth.forms depth.operators)
+        (of_deep exprs_in) reader.old result reader.new }
+    ensures depth { IfOk result (λ found. HasDepth depth.operators found.depth
+        (exprs_depth (exprs_in reader.old.spellings found.tree))) }
 {
     let first = expr(alloc, reader, depth)?;
     let mut more = Items::new(alloc);

@@ -86,7 +86,8 @@ Gives view (Ok found) rest out = out ≡ Ok (view found, rest)
 Gives view (Err why) rest out = StopsBy why rest out
 
 -- what a function answered is what the reader answers, where at least so many turns may be taken
-pub record ParsesIn {X A : Type 0} (least : ℕ) (reader : ℕ → Prog A) (view : List ℕ → X → A) (old : Place) (result : Result X Stop) (new : Place) : Type 0 where
+pub record ParsesIn {X A : Type 0} (least : ℕ) (reader : ℕ → Prog A) (view : List ℕ → X → A)
+    (old : Place) (result : Result X Stop) (new : Place) : Type 0 where
   pub gives : (most : ℕ) → least ≤ most → Gives (view old.spellings) result new.tokens (run (reader most) old.tokens)
   pub shorter : length new.tokens ≤ length old.tokens
   pub taken : new.taken + length new.tokens ≡ old.taken + length old.tokens

@@ -1,4 +1,5 @@
-use Rattle.std.proofs.Common.{◌≡◌, ◌∙◌, refl, sym, ap, subst, arith, ℕ, suc, Ok, Err, ◌+◌, ◌-◌, ◌≤◌, ◌<◌, max, List, [], ◌∷◌, length, map}
+use Rattle.std.proofs.Common.{◌≡◌, ◌∙◌, refl, sym, ap, subst, arith, ℕ, suc, Ok, Err, ◌+◌, ◌-◌, ◌≤◌, ◌<◌, max, List}
+use Rattle.std.proofs.Common.{[], ◌∷◌, length, map}
 use Rattle.std.proofs.lemmas.Result.{err_from_is_err_and}
 use Rattle.pas_tokens.specs.declared.kinds.Kind.TheVariants as k
 use Rattle.pas_syntax.specs.declared.limits.TheConstants.{NESTING_LIMIT}
@@ -14,12 +15,26 @@ use Rattle.pas_syntax.specs.declared.tree.Factor.TheVariants as code
 use Rattle.pas_syntax.specs.declared.tree.Selector.TheVariants as code_selector
 use Rattle.pas_syntax.specs.Views.{quoted_in}
 use Rattle.pas_syntax.specs.inner.Deeps.{of_deep, HasDepth, BeginsSelector}
-use Rattle.pas_syntax.specs.inner.Readers.{factor, expr, exprs, variable, behind_sum, sum_by, term_by, behind_term, behind_factor, behind_expr, behind_variable, behind_name, factor_at, expr_by, exprs_by, variable_by, indexes_by, right_bracket_at, right_parenthesis_at, ident, quoted}
-use Rattle.pas_syntax.proofs.PlaceLemmas.{returned, stops, goes_on, goes_as, answers, skips, passes, line_of_head, no_memory, kept_no_memory, any_turns, refuses, with_more, ident_further, seen_as, still_stops}
-use Rattle.pas_syntax.proofs.DeepLemmas.{too_deep, within, made, made_as, at_depth, one_more, deeper, made_depth, one_sign, no_depth, most_deep, swap_deep, more_selected}
+use Rattle.pas_syntax.specs.inner.Readers.{factor, expr, exprs, variable, behind_sum, sum_by, term_by, behind_term}
+use Rattle.pas_syntax.specs.inner.Readers.{behind_factor, behind_expr, behind_variable, behind_name, factor_at}
+use Rattle.pas_syntax.specs.inner.Readers.{expr_by, exprs_by, variable_by, indexes_by, right_bracket_at}
+use Rattle.pas_syntax.specs.inner.Readers.{right_parenthesis_at, ident, quoted}
+use Rattle.pas_syntax.proofs.PlaceLemmas.{returned, stops, goes_on, goes_as, answers, skips, passes, line_of_head}
+use Rattle.pas_syntax.proofs.PlaceLemmas.{no_memory, kept_no_memory, any_turns, refuses, with_more, ident_further}
+use Rattle.pas_syntax.proofs.PlaceLemmas.{seen_as, still_stops}
+use Rattle.pas_syntax.proofs.DeepLemmas.{too_deep, within, made, made_as, at_depth, one_more, deeper, made_depth}
+use Rattle.pas_syntax.proofs.DeepLemmas.{one_sign, no_depth, most_deep, swap_deep, more_selected}
 use Rattle.pas_syntax.proofs.SoFar.{SoFar, begun, begun_behind, turned, turn_stops, loop_ends, turn_passes}
-use Rattle.pas_syntax.proofs.ExprViews.{sum_view, relation_view, first_term_view, signed_term_view, first_factor_view, literal_view, text_view, parenthesized_view, negated_view, variable_view, call_view, indexes_view, field_view, buffer_view, function_call_view, selected_view, exprs_view, more_expr_view, one_more_in_turn, pushed_in_turn}
-use Rattle.pas_syntax.proofs.ExprSteps.{lined, sum_goes, sum_ends, term_goes, in_goes, terms_end, factor_goes, slash_goes, factors_end, sign_goes, no_sign, literal_goes, text_goes, parenthesis_goes, not_goes, bracket_goes, nil_goes, name_goes, call_goes, no_call, exprs_end, variable_ends, comma_goes, indexes_goes, field_goes, buffer_goes, caret_of, factor_takes, plain_expr, parenthesis_read, bracket_read}
+use Rattle.pas_syntax.proofs.ExprViews.{sum_view, relation_view, first_term_view, signed_term_view, first_factor_view}
+use Rattle.pas_syntax.proofs.ExprViews.{literal_view, text_view, parenthesized_view, negated_view, variable_view}
+use Rattle.pas_syntax.proofs.ExprViews.{call_view, indexes_view, field_view, buffer_view, function_call_view}
+use Rattle.pas_syntax.proofs.ExprViews.{selected_view, exprs_view, more_expr_view, one_more_in_turn, pushed_in_turn}
+use Rattle.pas_syntax.proofs.ExprSteps.{lined, sum_goes, sum_ends, term_goes, in_goes, terms_end, factor_goes}
+use Rattle.pas_syntax.proofs.ExprSteps.{slash_goes, factors_end, sign_goes, no_sign, literal_goes, text_goes}
+use Rattle.pas_syntax.proofs.ExprSteps.{parenthesis_goes, not_goes, bracket_goes, nil_goes, name_goes, call_goes}
+use Rattle.pas_syntax.proofs.ExprSteps.{no_call, exprs_end, variable_ends, comma_goes, indexes_goes, field_goes}
+use Rattle.pas_syntax.proofs.ExprSteps.{buffer_goes, caret_of, factor_takes, plain_expr, parenthesis_read}
+use Rattle.pas_syntax.proofs.ExprSteps.{bracket_read}
 use Rattle.pas_syntax.proofs.expressions.+expression.Goals as goal
 
 pub expr-returns-in_err-left-clause-value : goal.expr-returns-in_err-left-clause-value
@@ -198,7 +213,8 @@ exprs-returns-in_default t c =
       depth = subst (λ found. HasDepth a c.more.deepest (exprs_depth found)) same c.more.invariant.depth;
     }
 
-pub factor-returns-in_err-inner-in-LeftParenthesis-clause-value : goal.factor-returns-in_err-inner-in-LeftParenthesis-clause-value
+pub factor-returns-in_err-inner-in-LeftParenthesis-clause-value :
+    goal.factor-returns-in_err-inner-in-LeftParenthesis-clause-value
 factor-returns-in_err-inner-in-LeftParenthesis-clause-value t c =
     let n = c.args.depth.forms in
     let a = c.args.depth.operators in
@@ -208,7 +224,8 @@ factor-returns-in_err-inner-in-LeftParenthesis-clause-value t c =
     c.in-LeftParenthesis.ensures.fits refl)
     (too_deep _ (n + 1) c.in_err-inner-in-LeftParenthesis.ensures.err refl)))
 
-pub factor-returns-in_err-value-in-LeftParenthesis-clause-value : goal.factor-returns-in_err-value-in-LeftParenthesis-clause-value
+pub factor-returns-in_err-value-in-LeftParenthesis-clause-value :
+    goal.factor-returns-in_err-value-in-LeftParenthesis-clause-value
 unfolding expr
 factor-returns-in_err-value-in-LeftParenthesis-clause-value t c =
     let n = c.args.depth.forms in
@@ -224,7 +241,8 @@ factor-returns-in_err-value-in-LeftParenthesis-clause-value t c =
     (stops (λ m e. bind (look right_parenthesis_at) (λ closed. done (tree.parenthesized line e closed)))
     (at_depth expr inner.inner_is c.in_err-value-in-LeftParenthesis.ensures.value))))))
 
-pub factor-returns-in_err-closed-in-LeftParenthesis-clause-value : goal.factor-returns-in_err-closed-in-LeftParenthesis-clause-value
+pub factor-returns-in_err-closed-in-LeftParenthesis-clause-value :
+    goal.factor-returns-in_err-closed-in-LeftParenthesis-clause-value
 unfolding expr
 factor-returns-in_err-closed-in-LeftParenthesis-clause-value t c =
     let n = c.args.depth.forms in
@@ -290,7 +308,8 @@ factor-returns-in_ok-quoted-in-Text-clause-value t c =
     ∙ sym (ap (λ d. factor_in c.quoted.new.self.spellings d.tree) c.shallow-in-Text.ensures
     ∙ text_view c.quoted.new.self.spellings found)))))
 
-pub factor-returns-in_ok-new-in-LeftParenthesis-clause-value : goal.factor-returns-in_ok-new-in-LeftParenthesis-clause-value
+pub factor-returns-in_ok-new-in-LeftParenthesis-clause-value :
+    goal.factor-returns-in_ok-new-in-LeftParenthesis-clause-value
 unfolding expr
 factor-returns-in_ok-new-in-LeftParenthesis-clause-value t c =
     let n = c.args.depth.forms in
@@ -315,7 +334,8 @@ factor-returns-in_ok-new-in-LeftParenthesis-clause-value t c =
     ∙ sym (ap (λ e. factor_in end (code.Parenthesized line e closed)) c.in_ok-new-in-LeftParenthesis.ensures
     ∙ parenthesized_view end line found closed))))))))
 
-pub factor-returns-in_ok-new-in-LeftParenthesis-clause-depth : goal.factor-returns-in_ok-new-in-LeftParenthesis-clause-depth
+pub factor-returns-in_ok-new-in-LeftParenthesis-clause-depth :
+    goal.factor-returns-in_ok-new-in-LeftParenthesis-clause-depth
 factor-returns-in_ok-new-in-LeftParenthesis-clause-depth t c =
     let s = c.args.reader.now.spellings in
     let line = c.pass-opened.result in
@@ -530,7 +550,8 @@ function_call-returns-clause-value t c =
       closed = closed;
     }))))))))
 
-pub named_factor-returns-in_err-found-in-LeftParenthesis-clause-value : goal.named_factor-returns-in_err-found-in-LeftParenthesis-clause-value
+pub named_factor-returns-in_err-found-in-LeftParenthesis-clause-value :
+    goal.named_factor-returns-in_err-found-in-LeftParenthesis-clause-value
 named_factor-returns-in_err-found-in-LeftParenthesis-clause-value t c =
     let n = c.args.depth.forms in
     let a = c.args.depth.operators in
@@ -564,7 +585,8 @@ named_factor-returns-in_err-found-in_default t c =
       depth = rw e.1 tt;
     }
 
-pub named_factor-returns-in_ok-new-in-LeftParenthesis-clause-value : goal.named_factor-returns-in_ok-new-in-LeftParenthesis-clause-value
+pub named_factor-returns-in_ok-new-in-LeftParenthesis-clause-value :
+    goal.named_factor-returns-in_ok-new-in-LeftParenthesis-clause-value
 named_factor-returns-in_ok-new-in-LeftParenthesis-clause-value t c =
     let n = c.args.depth.forms in
     let a = c.args.depth.operators in
@@ -605,7 +627,8 @@ named_factor-returns-in_ok-new-in_default t c =
           (deeper (λ s. variable_depth (variable_in s found)) refl named.spellings c.in_ok-found-in_default.ensures.depth);
     }
 
-pub selector-returns-in_err-indexes-in-LeftBracket-clause-value : goal.selector-returns-in_err-indexes-in-LeftBracket-clause-value
+pub selector-returns-in_err-indexes-in-LeftBracket-clause-value :
+    goal.selector-returns-in_err-indexes-in-LeftBracket-clause-value
 unfolding exprs
 selector-returns-in_err-indexes-in-LeftBracket-clause-value t c v =
     let n = c.args.depth.forms in
@@ -620,7 +643,8 @@ selector-returns-in_err-indexes-in-LeftBracket-clause-value t c v =
     (stops (λ m es. bind (look right_bracket_at) (λ closed. done (tree.indexed v line es closed)))
     (at_depth exprs inner.inner_is c.in_err-indexes-in-LeftBracket.ensures.value)))))
 
-pub selector-returns-in_err-closed-in-LeftBracket-clause-value : goal.selector-returns-in_err-closed-in-LeftBracket-clause-value
+pub selector-returns-in_err-closed-in-LeftBracket-clause-value :
+    goal.selector-returns-in_err-closed-in-LeftBracket-clause-value
 unfolding exprs
 selector-returns-in_err-closed-in-LeftBracket-clause-value t c v =
     let n = c.args.depth.forms in
@@ -922,7 +946,8 @@ variable-more-init t c =
       depth = subst (λ found. HasDepth c.args.depth.operators 0 (variable_depth found)) same (no_depth refl);
     }
 
-pub variable-returns-in_err-found-in-LeftBracket-clause-value : goal.variable-returns-in_err-found-in-LeftBracket-clause-value
+pub variable-returns-in_err-found-in-LeftBracket-clause-value :
+    goal.variable-returns-in_err-found-in-LeftBracket-clause-value
 variable-returns-in_err-found-in-LeftBracket-clause-value t c =
     let s = c.args.reader.now.spellings in
     let found = in_turn (tree.whole (ident_in s c.args.name)) (map (selector_in s) c.more.selectors) in
@@ -951,7 +976,8 @@ variable-more-preserved t c =
           ∙ c.in_ok-found-in-LeftBracket.ensures.depth found));
     }
 
-pub variable-returns-in_err-push-in-LeftBracket-clause-value : goal.variable-returns-in_err-push-in-LeftBracket-clause-value
+pub variable-returns-in_err-push-in-LeftBracket-clause-value :
+    goal.variable-returns-in_err-push-in-LeftBracket-clause-value
 variable-returns-in_err-push-in-LeftBracket-clause-value t c =
     let s = c.args.reader.now.spellings in
     let found = in_turn (tree.whole (ident_in s c.args.name)) (map (selector_in s) c.more.selectors) in
@@ -989,7 +1015,8 @@ named_factor-returns-in_err-name-clause-value t c =
     returned (err_from_is_err_and _ c.from_residual.ensures.1)
     (stops (λ m name. look (behind_name (factor m) m n a name)) (any_turns ident c.in_err-name.ensures))
 
-pub selector-returns-in_err-inner-in-LeftBracket-clause-value : goal.selector-returns-in_err-inner-in-LeftBracket-clause-value
+pub selector-returns-in_err-inner-in-LeftBracket-clause-value :
+    goal.selector-returns-in_err-inner-in-LeftBracket-clause-value
 selector-returns-in_err-inner-in-LeftBracket-clause-value t c v =
     let n = c.args.depth.forms in
     let a = c.args.depth.operators in

@@ -1,4 +1,5 @@
-use Rattle.std.proofs.Common.{◌≡◌, ◌∙◌, refl, sym, ap, subst, arith, ℕ, ◌+◌, ◌≤◌, suc, List, [], ◌∷◌, length, map, Option, Some, None}
+use Rattle.std.proofs.Common.{◌≡◌, ◌∙◌, refl, sym, ap, subst, arith, ℕ, ◌+◌, ◌≤◌, suc, List, [], ◌∷◌, length, map}
+use Rattle.std.proofs.Common.{Option, Some, None}
 use Rattle.std.proofs.lemmas.Result.{err_from_is_err_and}
 use Rattle.pas_tokens.specs.declared.kinds.Kind.TheVariants as k
 use Rattle.pas_syntax.specs.declared.limits.TheConstants.{NESTING_LIMIT}
@@ -12,15 +13,20 @@ use Rattle.pas_syntax.specs.inner.Marks.{mark}
 use Rattle.pas_syntax.specs.inner.Places.{same}
 use Rattle.pas_syntax.specs.inner.Readers.{unless}
 use Rattle.pas_syntax.specs.inner.StatementReaders.{with_line}
-use Rattle.pas_syntax.specs.inner.TypeReaders.{simple, ArrayStart, Group, FieldsRead, type_form, structured_at, array_start_by, record_body}
-use Rattle.pas_syntax.specs.inner.TypeReaders.{group_by, array_by, file_by, fields_by, behind_semicolon, behind_fields, first_group}
-use Rattle.pas_syntax.specs.inner.TypeViews.{array_head_in, record_in, group_in, fields_in, field_list_in, more_fields_in}
-use Rattle.pas_syntax.proofs.PlaceLemmas.{told, returned, stops, goes_as, goes_on, answers, skips, line_of_head, with_more, no_memory}
+use Rattle.pas_syntax.specs.inner.TypeReaders.{simple, ArrayStart, Group, FieldsRead, type_form, structured_at}
+use Rattle.pas_syntax.specs.inner.TypeReaders.{array_start_by, record_body}
+use Rattle.pas_syntax.specs.inner.TypeReaders.{group_by, array_by, file_by, fields_by, behind_semicolon}
+use Rattle.pas_syntax.specs.inner.TypeReaders.{behind_fields, first_group}
+use Rattle.pas_syntax.specs.inner.TypeViews.{array_head_in, record_in, group_in, fields_in, field_list_in}
+use Rattle.pas_syntax.specs.inner.TypeViews.{more_fields_in}
+use Rattle.pas_syntax.proofs.PlaceLemmas.{told, returned, stops, goes_as, goes_on, answers, skips, line_of_head}
+use Rattle.pas_syntax.proofs.PlaceLemmas.{with_more, no_memory}
 use Rattle.pas_syntax.proofs.PlaceLemmas.{seen_as, still_stops, any_turns}
 use Rattle.pas_syntax.proofs.DeepLemmas.{at_depth}
 use Rattle.pas_syntax.proofs.PlaceSteps.{from_here, and_then, behind_line, stopped, passed, read, no_room}
 use Rattle.pas_syntax.proofs.TypeSteps.{type_takes, packed_goes, bare_goes, plain_goes, simple_view, array_view}
-use Rattle.pas_syntax.proofs.TypeSteps.{record_view, file_view, group_view, turn_kinds, semicolon_goes, group_goes, last_semicolon}
+use Rattle.pas_syntax.proofs.TypeSteps.{record_view, file_view, group_view, turn_kinds, semicolon_goes, group_goes}
+use Rattle.pas_syntax.proofs.TypeSteps.{last_semicolon}
 use Rattle.pas_syntax.proofs.TypeSteps.{fields_end, more_fields_view, record_form_view}
 use Rattle.pas_syntax.proofs.ExprViews.{pushed_in_turn}
 use Rattle.pas_syntax.proofs.SoFar.{SoFar, begun_behind, turned, turn_stops, loop_ends}
