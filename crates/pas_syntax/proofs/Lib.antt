@@ -36,3 +36,4 @@ pub mod TokenLemmas
 pub mod StatementSeen
 pub mod StatementSteps
 pub mod TypeSteps
+pub mod RowSteps

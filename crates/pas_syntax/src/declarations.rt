@@ -1,6 +1,6 @@
 //! How declarations are read.
 ghost use Rattle.pas_syntax.specs.Views.{numeral_in, separated_in, if_there};
-ghost use Rattle.pas_syntax.specs.ProgramViews.{labels_in, constant_row_in, type_row_in};
+ghost use Rattle.pas_syntax.specs.ProgramViews.{labels_in, rows_in, constant_row_in, type_row_in};
 ghost use Rattle.pas_syntax.specs.inner.Prog.{bind};
 ghost use Rattle.pas_syntax.specs.inner.Places.{Parses};
 ghost use Rattle.pas_syntax.specs.inner.Readers.{ident as ident_reader};
@@ -74,7 +74,10 @@ fn numerals(alloc: Global, reader: &mut Reader<'_>) -> Result<Separated<Numeral>
 fn constant_rows(
     alloc: Global,
     reader: &mut Reader<'_>,
-) -> Result<Option<Rows<ConstantRow>>, Stop> {
+) -> Result<Option<Rows<ConstantRow>>, Stop>
+    ensures { Parses spec.constant_rows (λ spellings. if_there (rows_in spellings (constant_row_in spellings)))
+        reader.old result reader.new }
+{
     let Some(line) = reader.maybe(Kind::Const) else {
         return Ok(None);
     };
@@ -105,7 +108,10 @@ fn constant_row(reader: &mut Reader<'_>) -> Result<ConstantRow, Stop>
 }
 
 // Reads `["type" id "=" type ";" {id "=" type ";"}]`.
-fn type_rows(alloc: Global, reader: &mut Reader<'_>) -> Result<Option<Rows<TypeRow>>, Stop> {
+fn type_rows(alloc: Global, reader: &mut Reader<'_>) -> Result<Option<Rows<TypeRow>>, Stop>
+    ensures { Parses spec.type_rows (λ spellings. if_there (rows_in spellings (type_row_in spellings)))
+        reader.old result reader.new }
+{
     let Some(line) = reader.maybe(Kind::Type) else {
         return Ok(None);
     };
