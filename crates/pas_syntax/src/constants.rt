@@ -48,10 +48,7 @@ fn sign(reader: &mut Reader<'_>) -> Option<Lined<Sign>>
 }
 
 // Reads `const {"," const}`.
-pub(crate) fn constants(
-    alloc: Global,
-    reader: &mut Reader<'_>,
-) -> Result<Separated<Constant>, Stop>
+pub(crate) fn constants(alloc: Global, reader: &mut Reader<'_>) -> Result<Separated<Constant>, Stop>
     ensures { Parses (λ m. spec.items_by spec.constant m) (λ spellings. separated_in (constant_in spellings)) reader.old
         result reader.new }
 {

@@ -71,10 +71,7 @@ fn numerals(alloc: Global, reader: &mut Reader<'_>) -> Result<Separated<Numeral>
 }
 
 // Reads `["const" id "=" const ";" {id "=" const ";"}]`.
-fn constant_rows(
-    alloc: Global,
-    reader: &mut Reader<'_>,
-) -> Result<Option<Rows<ConstantRow>>, Stop>
+fn constant_rows(alloc: Global, reader: &mut Reader<'_>) -> Result<Option<Rows<ConstantRow>>, Stop>
     ensures { Parses spec.constant_rows (λ spellings. if_there (rows_in spellings (constant_row_in spellings)))
         reader.old result reader.new }
 {
