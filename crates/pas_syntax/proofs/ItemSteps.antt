@@ -67,7 +67,7 @@ module _ {A X : Type 0} (view : List ℕ → X → A) (item : ℕ → Prog A) wh
       let last : CodeBehind X = record { line = line; item = x } in
       let count : length now.tokens ≡ suc (length middle.tokens) = ap length passed.tokens in
       let mapped : map (behind_in (view s)) all ≡ map (behind_in (view s)) more ++ behind_in (view s) last ∷ [] =
-          ap (map (behind_in (view s))) push ∙ map-append (behind_in (view s)) more (last ∷ []) in
+      ap (map (behind_in (view s))) push ∙ map-append (behind_in (view s)) more (last ∷ []) in
       subst (λ xs. SoFar (λ m. items_by (item m) m) (λ m. behind_item (item m)) old new
       (record { first = view s first; more = xs })) (sym mapped)
       (turned {view = λ s x. pushed found line (view s x)} {x = x} so

@@ -32,5 +32,7 @@ pub mod ExprViews
 pub mod ExprSteps
 pub mod ItemSteps
 pub mod ConstantSteps
+pub mod TokenLemmas
 pub mod StatementSeen
 pub mod StatementSteps
+pub mod TypeSteps

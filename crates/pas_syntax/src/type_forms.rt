@@ -9,7 +9,7 @@ ghost use Rattle.pas_syntax.specs.inner.Readers.{ident as ident_reader};
 ghost use Rattle.pas_syntax.specs.inner.Places.{Fits, Parses, ParsesIn, same};
 ghost use Rattle.pas_syntax.specs.inner.StatementReaders.{with_line};
 ghost use Rattle.pas_syntax.specs.inner.TypeReaders as spec;
-ghost use Rattle.pas_syntax.specs.inner.TypeViews.{IsLeftOut, array_head_in, record_in, group_in};
+ghost use Rattle.pas_syntax.specs.inner.TypeViews.{IsLeftOut, array_head_in, record_in, group_in, field_list_in};
 
 use crate::constants::constant;
 use crate::depth::Depth;
@@ -23,6 +23,14 @@ use pas_tokens::Kind;
 use sqlite_items::{Boxed, Items};
 use std::alloc::Global;
 use wb_base::faults::{ENUMERATIONS, POINTERS, SETS};
+
+// The fields of a record type, and the line of the semicolon behind the last.
+#[derive(Drop)]
+pub(crate) struct FieldList {
+    first: FieldGroup,
+    more: Items<MoreFields>,
+    semicolon: Option<u32>,
+}
 
 // Reads a type.
 #[cycle(type_form)]
@@ -165,30 +173,52 @@ fn record_form(
         result reader.new }
 {
     let line = reader.pass();
-    let first = field_group(alloc, reader, depth)?;
-    let mut more = Items::new(alloc);
-    let mut semicolon = None;
-    'more: while let Some(semicolon_line) = reader.maybe(Kind::Semicolon) {
-        match reader.kind() {
-            Kind::Name => more.push(MoreFields {
-                line: semicolon_line,
-                group: field_group(alloc, reader, depth)?,
-            })?,
-            _ => {
-                semicolon = Some(semicolon_line);
-                break;
-            }
-        }
-    }
+    let fields = fields(alloc, reader, depth)?;
     let end = reader.take(Kind::End)?;
     Ok(RecordForm {
         packed,
         line,
-        first,
-        more,
-        semicolon,
+        first: fields.first,
+        more: fields.more,
+        semicolon: fields.semicolon,
         end,
     })
+}
+
+// Reads `ids ":" type {";" ids ":" type} [";"]`.
+#[cycle(type_form)]
+fn fields(alloc: Global, reader: &mut Reader<'_>, depth: Depth) -> Result<FieldList, Stop>
+    ensures { Parses (λ m. spec.fields_by (spec.type_form m) m depth.forms) field_list_in reader.old result reader.new }
+{
+    let first = field_group(alloc, reader, depth)?;
+    let mut more = Items::new(alloc);
+    'more: loop {
+        match reader.kind() {
+            Kind::Semicolon => {
+                let line = reader.pass();
+                match reader.kind() {
+                    Kind::Name => {
+                        let group = field_group(alloc, reader, depth)?;
+                        more.push(MoreFields { line, group })?;
+                    }
+                    _ => {
+                        return Ok(FieldList {
+                            first,
+                            more,
+                            semicolon: Some(line),
+                        });
+                    }
+                }
+            }
+            _ => {
+                return Ok(FieldList {
+                    first,
+                    more,
+                    semicolon: None,
+                });
+            }
+        }
+    }
 }
 
 // Reads `ids ":" type`.

@@ -1,5 +1,5 @@
 -- The parts of constants and types of the code as those of the readers.
-use Rattle.std.specs.Prelude.{◌≡◌, ◌≢◌, ℕ, List, Option, Some, None, Result, Ok, Err}
+use Rattle.std.specs.Prelude.{◌≡◌, ◌≢◌, ℕ, List, map, Option, Some, None, Result, Ok, Err}
 use Rattle.wb_base.specs.declared.faults.TheConstants.{ENUMERATIONS, SETS, POINTERS}
 use Rattle.pas_tokens.specs.declared.kinds.Kind.{Kind}
 use Rattle.pas_tokens.specs.declared.kinds.Kind.TheVariants as k
@@ -12,13 +12,15 @@ use Rattle.pas_syntax.specs.declared.tree.RecordForm as code_record
 use Rattle.pas_syntax.specs.declared.tree.FieldGroup as code_group
 use Rattle.pas_syntax.specs.declared.tree.MoreFields as code_more
 use Rattle.pas_syntax.specs.declared.tree.TypeForm.TheFolds.{fold-RecordForm, fold-FieldGroup, fold-MoreFields}
+use Rattle.pas_syntax.specs.Tree as tree
 use Rattle.pas_syntax.specs.Tree.{TypeForm, Fields}
 use Rattle.pas_syntax.specs.Words.{sign_kind}
-use Rattle.pas_syntax.specs.Views.{separated_in, simple_in}
+use Rattle.pas_syntax.specs.Views.{in_turn, separated_in, simple_in}
 use Rattle.pas_syntax.specs.ProgramViews.{Group as GroupSeen, type_step, group_step, more_fields_step, record_step}
 use Rattle.pas_syntax.specs.inner.Prog.{head}
 use Rattle.pas_syntax.specs.inner.Places.{Place, Passes}
-use Rattle.pas_syntax.specs.inner.TypeReaders.{ArrayStart, Group}
+use Rattle.pas_syntax.specs.inner.TypeReaders.{ArrayStart, Group, FieldsRead}
+use Rattle.pas_syntax.specs.declared.type_forms.FieldList.{FieldList}
 
 -- a sign that is passed, if one comes next
 abbrev pub IsLead : Place → Option (CodeLined Sign) → Place → Type 0
@@ -62,3 +64,14 @@ module _ (spellings : List ℕ) where
   abbrev pub more_fields_in : code_more.MoreFields → Fields → Fields
   more_fields_in = fold-MoreFields TypeForm GroupSeen (Fields → Fields) TypeForm (type_step spellings)
       (group_step spellings) (more_fields_step spellings) (record_step spellings)
+
+  abbrev pub fields_in : code_group.FieldGroup → List code_more.MoreFields → Option ℕ → FieldsRead
+  fields_in first more semicolon =
+      record {
+        fields = in_turn (tree.first_fields (group_in first).names (group_in first).colon (group_in first).form)
+            (map more_fields_in more);
+        semicolon = semicolon;
+      }
+
+  abbrev pub field_list_in : FieldList → FieldsRead
+  field_list_in list = fields_in list.first list.more list.semicolon

@@ -1,15 +1,17 @@
-use Rattle.std.proofs.Common.{◌≡◌, ◌≤◌, ◌+◌, ◌-◌, ◌*◌, ◌<◌, length, ℕ, map, None}
+use Rattle.std.proofs.Common.{◌≡◌, ◌≤◌, ◌+◌, ◌-◌, ◌*◌, ◌<◌, length, ℕ, List, map, None}
 use Rattle.pas_syntax.specs.declared.limits.TheConstants.{NESTING_LIMIT}
+use Rattle.pas_syntax.specs.declared.tree.FieldGroup as code_group
+use Rattle.pas_syntax.specs.declared.tree.MoreFields as code_more
 use Rattle.pas_syntax.specs.Tree as tree
 use Rattle.pas_syntax.specs.Views.{in_turn}
-use Rattle.pas_syntax.specs.inner.TypeReaders.{fields_by, behind_fields, first_group, type_form}
-use Rattle.pas_syntax.specs.inner.TypeViews.{group_in, more_fields_in}
+use Rattle.pas_syntax.specs.inner.TypeReaders.{fields_by, behind_fields, type_form}
+use Rattle.pas_syntax.specs.inner.TypeViews.{fields_in}
 use Rattle.pas_syntax.proofs.SoFar.{SoFar}
 use Rattle.pas_syntax.proofs.type_forms.+type_form.Given as goal
 
 -- how many forms may still come
 abbrev room : ℕ → ℕ
-room forms = 5 * (NESTING_LIMIT - forms)
+room forms = 6 * (NESTING_LIMIT - forms)
 
 abbrev pub decreases-type_form : goal.decreases-type_form
 decreases-type_form l = room l.depth.forms + 2
@@ -24,20 +26,18 @@ abbrev pub decreases-file_form : goal.decreases-file_form
 decreases-file_form l = room l.depth.forms
 
 abbrev pub decreases-record_form : goal.decreases-record_form
-decreases-record_form l = room l.depth.forms + 4
+decreases-record_form l = room l.depth.forms + 5
 
 abbrev pub decreases-field_group : goal.decreases-field_group
 decreases-field_group l = room l.depth.forms + 3
 
-abbrev pub invariant-record_form-more : goal.invariant-record_form-more
-invariant-record_form-more l =
-    let s = l.fn.reader.spellings in
-    record {
-      so_far : SoFar (λ m. fields_by (type_form m) m l.depth.forms) (λ m. behind_fields (type_form m) m l.depth.forms)
-          l.initial.reader l.reader
-          (record { fields = in_turn (first_group (group_in s l.first)).fields (map (more_fields_in s) l.more); semicolon = None });
-      none : l.semicolon ≡ None;
-    }
+abbrev pub decreases-fields : goal.decreases-fields
+decreases-fields l = room l.depth.forms + 4
 
-abbrev pub decreases-record_form-more : goal.decreases-record_form-more
-decreases-record_form-more l = length l.reader.tokens
+abbrev pub invariant-fields-more : goal.invariant-fields-more
+invariant-fields-more l =
+    SoFar (λ m. fields_by (type_form m) m l.depth.forms) (λ m. behind_fields (type_form m) m l.depth.forms)
+    l.fn.reader l.reader (fields_in l.fn.reader.spellings l.first l.more None)
+
+abbrev pub decreases-fields-more : goal.decreases-fields-more
+decreases-fields-more l = length l.reader.tokens
