@@ -78,6 +78,16 @@ module _ {A B X Y : Type 0} {first : List ℕ → X → A} {view : Y → B} {spe
       (subst (λ t. ParsesIn (suc (length middle.tokens)) (λ m. g m (first t x)) (λ any. view) middle result new) (sym e)
       (rest (h.spellings ∙ e))))
 
+  -- the same, with so many turns
+  pub then_in : {p : ℕ → Prog A} (g : ℕ → A → Prog B) {least below : ℕ} {old middle new : Place} {x : X}
+      {result : Result Y Stop} → below ≤ least → ParsesIn least p first old (Ok x) middle
+      → From spellings below (λ m. g m (first spellings x)) view middle result new
+      → From spellings least (λ m. bind (p m) (g m)) view old result new
+  then_in g {least = least} {below = below} {middle = middle} {new = new} {x = x} {result = result} within h rest e =
+      goes_on g h (with_more within
+      (subst (λ t. ParsesIn below (λ m. g m (first t x)) (λ any. view) middle result new) (sym e)
+      (rest (h.spellings ∙ e))))
+
   -- the same behind the first token of a form
   pub behind_line : {q : ℕ → ℕ → Prog A} (g : ℕ → A → Prog B) {old middle new : Place} {x : X} {result : Result Y Stop}
       → ParsesIn (length old.tokens) (λ m. with_line (λ line. skip (q m line))) first old (Ok x) middle
@@ -162,3 +172,20 @@ module _ {A X : Type 0} {view : List ℕ → X → A} where
       let said : t.payload ≡ nothing = plain_nothing kind t.payload plain (subst (λ kind. Fits kind t.payload) is fits) in
       goes_as (λ most. ap (λ kind. run (f most kind t.payload t.line) old.tokens) is
       ∙ ap (λ payload. run (f most kind payload t.line) old.tokens) said) read
+
+-- the same of what is read from a place on
+module _ {A X : Type 0} {view : X → A} {spellings : List ℕ} where
+  pub comes : (f : ℕ → Kind → Payload → ℕ → Prog A) (kind : Kind) {least : ℕ} {old new : Place} {result : Result X Stop}
+      → IsPlain kind → kind ≡ (head old.tokens).kind → Fits (head old.tokens).kind (head old.tokens).payload
+      → From spellings least (λ m. with_line (λ line. f m kind nothing line)) view old result new
+      → From spellings least (λ m. look (f m)) view old result new
+  comes f kind plain is fits read e = looks_at f kind plain (sym is) fits (read e)
+
+  pub goes_from : {p q : ℕ → Prog A} {least : ℕ} {old new : Place} {result : Result X Stop}
+      → ((most : ℕ) → run (p most) old.tokens ≡ run (q most) old.tokens)
+      → From spellings least q view old result new → From spellings least p view old result new
+  goes_from same read e = goes_as same (read e)
+
+  pub more_from : {p : ℕ → Prog A} {least more : ℕ} {old new : Place} {result : Result X Stop} → least ≤ more
+      → From spellings least p view old result new → From spellings more p view old result new
+  more_from within read e = with_more within (read e)

@@ -11,7 +11,8 @@ use Rattle.pas_syntax.specs.Tree.{Ident, Plain, Statement}
 use Rattle.pas_syntax.specs.inner.Prog.{Prog, done, look, skip, bind, run, head}
 use Rattle.pas_syntax.specs.inner.Readers.{ident_at, ident}
 use Rattle.pas_syntax.specs.inner.Places.{Place, Fits, Parses, ParsesIn, Gives}
-use Rattle.pas_syntax.specs.inner.StatementReaders.{numeral_at, numeral, behind_statement_name, plain_at, labelled_by}
+use Rattle.pas_syntax.specs.inner.StatementReaders.{Guard, numeral_at, numeral, behind_statement_name, else_at}
+use Rattle.pas_syntax.specs.inner.StatementReaders.{plain_at, labelled_by}
 use Rattle.pas_syntax.specs.inner.StatementReaders.{statement_at, statement}
 
 -- a label comes next
@@ -68,6 +69,19 @@ nothing_comes s m n k.For payload line a b c d e f g h i = absurd (g refl)
 nothing_comes s m n k.Goto payload line a b c d e f g h i = absurd (h refl)
 nothing_comes s m n k.With payload line a b c d e f g h i = absurd (i refl)
 nothing_comes s m n kind payload line a b c d e f g h i = refl
+
+-- no `else` comes next
+no_else_at : (s : ℕ → Prog Statement) (m n : ℕ) (g : Guard) (x : Statement) (kind : Kind) (payload : Payload) (line : ℕ)
+    → (k.Else ≡ kind → ⊥)
+    → else_at s m n g x kind payload line ≡ done (tree.if_then g.line g.value g.behind x)
+no_else_at s m n g x k.Else payload line other = absurd (other refl)
+no_else_at s m n g x kind payload line other = refl
+
+pub no_else_comes : (s : ℕ → Prog Statement) (m n : ℕ) (g : Guard) (x : Statement) (ts : List Token)
+    → (k.Else ≡ (head ts).kind → ⊥)
+    → run (look (else_at s m n g x)) ts ≡ run (done (tree.if_then g.line g.value g.behind x)) ts
+no_else_comes s m n g x ts other =
+    ap (λ q. run q ts) (no_else_at s m n g x (head ts).kind (head ts).payload (head ts).line other)
 
 some_turn : (n m : ℕ) → suc n ≤ m → (j : ℕ) × (m ≡ suc j)
 some_turn n zero h = absurd (omega (arith, h))

@@ -1,11 +1,24 @@
 //! How the elements of a `case` are read.
+ghost use Rattle.std.specs.Prelude.{◌≡◌, ℕ, List};
+ghost use Rattle.pas_tokens.specs.declared.kinds.Kind.TheVariants as k;
+ghost use Rattle.pas_syntax.specs.Nearest.{last_item};
+ghost use Rattle.pas_syntax.specs.Tree as tree;
+ghost use Rattle.pas_syntax.specs.Views.{constant_in, separated_in};
+ghost use Rattle.pas_syntax.specs.ProgramViews.{statement_in, others_in};
+ghost use Rattle.pas_syntax.specs.inner.Prog.{head};
+ghost use Rattle.pas_syntax.specs.inner.Places.{Parses, ParsesIn};
+ghost use Rattle.pas_syntax.specs.inner.Deeps.{Makes};
+ghost use Rattle.pas_syntax.specs.inner.StatementReaders as spec;
+ghost use Rattle.pas_syntax.specs.inner.StatementViews.{an_element_in, arm_in, arms_in, others_before_colon};
 
 use crate::constants::constants;
 use crate::depth::Depth;
 use crate::reader::Reader;
 use crate::statements::statement;
 use crate::stop::Stop;
-use crate::tree::{Constant, Element, Elements, MoreElement, Others, OthersHead, Separated};
+use crate::tree::{
+    Constant, Element, Elements, MoreElement, Others, OthersHead, Separated, Statement,
+};
 use pas_tokens::Kind;
 use sqlite_items::{Boxed, Items};
 use std::alloc::Global;
@@ -33,24 +46,30 @@ pub(crate) fn case_arms(
     alloc: Global,
     reader: &mut Reader<'_>,
     depth: Depth,
-) -> Result<Arms, Stop> {
+) -> Result<Arms, Stop>
+    ensures { Parses (λ m. spec.arms m depth.forms) arms_in reader.old result reader.new }
+{
     let constants = constants(alloc, reader)?;
     let first = element(alloc, reader, depth, constants)?;
     let mut more = Items::new(alloc);
-    let mut others = Others::Nothing;
-    'more: while let Some(line) = reader.maybe(Kind::Semicolon) {
-        match next_arm(alloc, reader, depth, line)? {
-            Arm::Element(element) => more.push(MoreElement { line, element })?,
-            Arm::Others(tail) => {
-                others = tail;
-                break;
+    'more: loop {
+        match reader.maybe(Kind::Semicolon) {
+            Some(line) => match next_arm(alloc, reader, depth, line)? {
+                Arm::Element(element) => more.push(MoreElement { line, element })?,
+                Arm::Others(others) => {
+                    let elements = Elements { first, more };
+                    return Ok(Arms { elements, others });
+                }
+            },
+            None => {
+                let elements = Elements { first, more };
+                return Ok(Arms {
+                    elements,
+                    others: Others::Nothing,
+                });
             }
         }
     }
-    Ok(Arms {
-        elements: Elements { first, more },
-        others,
-    })
 }
 
 // Reads what stands behind a semicolon in this line.
@@ -60,7 +79,9 @@ fn next_arm(
     reader: &mut Reader<'_>,
     depth: Depth,
     semicolon: u32,
-) -> Result<Arm, Stop> {
+) -> Result<Arm, Stop>
+    ensures { Parses (λ m. spec.next_arm m depth.forms semicolon) arm_in reader.old result reader.new }
+{
     match reader.kind() {
         Kind::End => Ok(Arm::Others(Others::Semicolon(semicolon))),
         _ => {
@@ -73,9 +94,9 @@ fn next_arm(
                         line,
                         colon,
                     };
-                    let chosen = Boxed::new(alloc, statement(alloc, reader, depth)?)?;
+                    let chosen = statement(alloc, reader, depth)?;
                     let end = reader.maybe(Kind::Semicolon);
-                    Ok(Arm::Others(Others::Others(head, chosen, end)))
+                    others(alloc, head, chosen, end)
                 }
                 None => Ok(Arm::Element(element(alloc, reader, depth, constants)?)),
             }
@@ -83,8 +104,24 @@ fn next_arm(
     }
 }
 
+// What stands behind `others`.
+fn others(
+    alloc: Global,
+    head: OthersHead,
+    chosen: Statement,
+    end: Option<u32>,
+) -> Result<Arm, Stop>
+    ensures { Makes arm_in result (λ spellings. spec.tail
+        (tree.others head.semicolon head.line head.colon (statement_in spellings chosen) end)) }
+{
+    Ok(Arm::Others(Others::Others(head, Boxed::new(alloc, chosen)?, end)))
+}
+
 // The line of `others`, where constants before a colon are that name alone.
-fn others_line(reader: &Reader<'_>, constants: &Separated<Constant>) -> Option<u32> {
+fn others_line(reader: &Reader<'_>, constants: &Separated<Constant>) -> Option<u32>
+    ensures { result ≡ others_before_colon (head reader.now.tokens).kind
+        (separated_in (constant_in reader.now.spellings) constants.now) }
+{
     match (reader.kind(), constants.first, constants.more.is_empty()) {
         (Kind::Colon, Constant::Named(None, ident), true) if reader.spells(ident, OTHERS) => {
             Some(ident.line)
@@ -100,7 +137,10 @@ fn element(
     reader: &mut Reader<'_>,
     depth: Depth,
     constants: Separated<Constant>,
-) -> Result<Element, Stop> {
+) -> Result<Element, Stop>
+    ensures { Parses (λ m. spec.element m depth.forms
+        (separated_in (constant_in reader.old.spellings) constants)) an_element_in reader.old result reader.new }
+{
     if is_others(reader, last_of(&constants)) {
         return Err(Stop::Misplaced);
     }
@@ -114,7 +154,10 @@ fn element(
 }
 
 // The last of some constants.
-fn last_of(constants: &Separated<Constant>) -> Constant {
+fn last_of(constants: &Separated<Constant>) -> Constant
+    ensures { (spellings : List ℕ) → constant_in spellings result
+        ≡ last_item (separated_in (constant_in spellings) constants.now) }
+{
     match constants.more.as_slice().last() {
         Some(behind) => behind.item,
         None => constants.first,
@@ -122,7 +165,9 @@ fn last_of(constants: &Separated<Constant>) -> Constant {
 }
 
 // Whether a constant is the name `others`.
-fn is_others(reader: &Reader<'_>, constant: Constant) -> bool {
+fn is_others(reader: &Reader<'_>, constant: Constant) -> bool
+    ensures { result ≡ spec.is_others (constant_in reader.now.spellings constant) }
+{
     match constant {
         Constant::Named(_, ident) => reader.spells(ident, OTHERS),
         _ => false,

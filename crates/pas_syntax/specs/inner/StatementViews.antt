@@ -1,5 +1,7 @@
 -- The parts of statements of the code as those of the readers.
-use Rattle.std.specs.Prelude.{ℕ, List, Option}
+use Rattle.std.specs.Prelude.{ℕ, List, Option, None}
+use Rattle.pas_tokens.specs.declared.kinds.Kind.{Kind}
+use Rattle.pas_tokens.specs.declared.kinds.Kind.TheVariants as k
 use Rattle.pas_syntax.specs.declared.cases.Arm.{Arm as CodeArm}
 use Rattle.pas_syntax.specs.declared.cases.Arm.TheVariants as arm
 use Rattle.pas_syntax.specs.declared.cases.Arms.{Arms as CodeArms}
@@ -10,10 +12,11 @@ use Rattle.pas_syntax.specs.declared.tree.Element as code_element
 use Rattle.pas_syntax.specs.declared.tree.Guard.{Guard as CodeGuard}
 use Rattle.pas_syntax.specs.declared.tree.ForHead.{ForHead as CodeForHead}
 use Rattle.pas_syntax.specs.Tree as tree
-use Rattle.pas_syntax.specs.Tree.{Behind, Expr, Plain}
+use Rattle.pas_syntax.specs.Tree.{Behind, Separated, Constant, Expr, Plain}
 use Rattle.pas_syntax.specs.Views.{ident_in, lined_in, behind_in, if_there, expr_in, variable_in}
 use Rattle.pas_syntax.specs.ProgramViews.{element_in, elements_in, others_in}
 use Rattle.pas_syntax.specs.inner.StatementReaders.{Guard, ForHead, Element, Arm, one_more, tail, Arms}
+use Rattle.pas_syntax.specs.inner.StatementReaders.{others_line}
 
 module _ (spellings : List ℕ) where
   abbrev pub guard_in : CodeGuard → Guard
@@ -50,3 +53,8 @@ module _ (spellings : List ℕ) where
 
   abbrev pub arms_in : CodeArms → Arms
   arms_in arms = record { elements = elements_in spellings arms.elements; others = others_in spellings arms.others }
+
+-- the line of `others`, where a colon comes next and constants are that name alone
+abbrev pub others_before_colon : Kind → Separated Constant → Option ℕ
+others_before_colon k.Colon constants = others_line constants
+others_before_colon kind constants = None

@@ -1,0 +1,504 @@
+use Rattle.std.proofs.Common.{◌≡◌, ◌∙◌, refl, sym, ap, subst, arith, ℕ, suc, Option, Ok, Err, ◌+◌, ◌-◌, ◌≤◌, ◌<◌, List, [], ◌∷◌}
+use Rattle.std.proofs.Common.{length, map}
+use Rattle.std.proofs.lemmas.Result.{err_from_is_err_and}
+use Rattle.pas_tokens.specs.declared.kinds.Kind.{Kind}
+use Rattle.pas_tokens.specs.declared.kinds.Kind.TheVariants as k
+use Rattle.pas_tokens.specs.Cutting.{Payload}
+use Rattle.pas_tokens.specs.Tokens.{Token}
+use Rattle.pas_syntax.specs.declared.limits.TheConstants.{NESTING_LIMIT}
+use Rattle.pas_syntax.specs.Tree as tree
+use Rattle.pas_syntax.specs.Tree.{Separated, Constant, Numeral, Expr, Plain, Statement, Statements, Compound, Elements}
+use Rattle.pas_syntax.specs.Views.{in_turn, expr_in}
+use Rattle.pas_syntax.specs.ProgramViews.{plain_in, statement_in, statements_in, more_statement_in, elements_in}
+use Rattle.pas_syntax.specs.ProgramViews.{others_in}
+use Rattle.pas_syntax.specs.inner.Prog.{Prog, done, turns, look, skip, bind, head, run, ends, turn_of, a_turn}
+use Rattle.pas_syntax.specs.inner.Places.{Fits}
+use Rattle.pas_syntax.specs.inner.Readers.{expr}
+use Rattle.pas_syntax.specs.inner.Marks.{mark}
+use Rattle.pas_syntax.specs.inner.StatementReaders.{Guard, ForHead, Element, Arms, numeral, guard_by, for_head_by, else_at, plain_at}
+use Rattle.pas_syntax.specs.inner.StatementReaders.{labelled_by, behind_statement, behind_statement_name, compound_by}
+use Rattle.pas_syntax.specs.inner.StatementReaders.{statement, statements, plain, arms, statement_at}
+use Rattle.pas_syntax.proofs.PlaceLemmas.{returned, stops, goes_on, goes_as, skips, line_of_head, kept_no_memory}
+use Rattle.pas_syntax.proofs.PlaceLemmas.{with_more, is_left_out, answers, any_turns, told}
+use Rattle.pas_syntax.proofs.PlaceSteps.{from_here, and_then, behind_line, stopped, passed, formed, too_deep, read, makes}
+use Rattle.pas_syntax.proofs.PlaceSteps.{looks_at, then_in, comes, goes_from, more_from}
+use Rattle.pas_syntax.proofs.SoFar.{SoFar, begun_behind, turned, turn_stops, loop_ends}
+use Rattle.pas_syntax.proofs.StatementSeen.{unlabelled_seen, empty_seen, goto_seen, compound_seen, plain_compound_seen}
+use Rattle.pas_syntax.proofs.StatementSeen.{statements_seen, more_statement_seen}
+use Rattle.pas_syntax.proofs.StatementSteps.{number_comes, no_number_comes, name_comes, nothing_comes, statement_takes}
+use Rattle.pas_syntax.proofs.StatementSteps.{no_else_comes}
+use Rattle.pas_syntax.proofs.ExprViews.{pushed_in_turn}
+use Rattle.pas_syntax.proofs.+statement.Goals as goal
+
+-- what stands behind a part of a statement
+abbrev ended : ℕ → Statements → ℕ → Prog Compound
+ended begin list end = done (record { begin = begin; list = list; end = end })
+
+abbrev behind_list : ℕ → Statements → Prog Compound
+behind_list begin list = bind (mark k.End) (ended begin list)
+
+abbrev behind_begin : ℕ → ℕ → ℕ → Prog Compound
+behind_begin m n begin = bind (statements m n) (behind_list begin)
+
+pub compound-returns-in_err-inner : goal.compound-returns-in_err-inner
+compound-returns-in_err-inner t c =
+    from_here (too_deep (λ m. behind_begin m (c.args.depth.forms + 1)) c.from_residual.result
+    c.in_err-inner.ensures.err c.from_residual.ensures.1)
+
+pub compound-returns-in_err-list : goal.compound-returns-in_err-list
+compound-returns-in_err-list t c =
+    from_here (formed behind_begin c.in_ok-inner.ensures.ok
+    (passed (λ m. behind_begin m c.in_ok-inner.inner.forms) c.pass-begin.ensures
+    (stopped (λ m. behind_list c.pass-begin.result) c.from_residual-in_err-list.result c.in_err-list.ensures
+    c.from_residual-in_err-list.ensures.1)))
+
+pub compound-returns-in_err-end : goal.compound-returns-in_err-end
+compound-returns-in_err-end t c =
+    from_here (formed behind_begin c.in_ok-inner.ensures.ok
+    (passed (λ m. behind_begin m c.in_ok-inner.inner.forms) c.pass-begin.ensures
+    (and_then (λ m. behind_list c.pass-begin.result) c.in_ok-list.ensures
+    (stopped (λ m. ended c.pass-begin.result _) c.from_residual-in_err-end.result c.in_err-end.ensures
+    c.from_residual-in_err-end.ensures.1))))
+
+pub compound-returns : goal.compound-returns
+compound-returns t c =
+    from_here (formed behind_begin c.in_ok-inner.ensures.ok
+    (passed (λ m. behind_begin m c.in_ok-inner.inner.forms) c.pass-begin.ensures
+    (and_then (λ m. behind_list c.pass-begin.result) c.in_ok-list.ensures
+    (and_then (λ m. ended c.pass-begin.result _) c.in_ok-end.ensures
+    (read (sym (compound_seen _ (record {
+      begin = c.pass-begin.result;
+      list = c.in_ok-list.list;
+      end = c.in_ok-end.end;
+    }))))))))
+
+-- `while`
+abbrev while_made : Guard → Statement → Prog Plain
+while_made g s = done (tree.while g.line g.value g.behind s)
+
+abbrev behind_do : ℕ → ℕ → Guard → Prog Plain
+behind_do m n g = bind (statement m n) (while_made g)
+
+abbrev behind_while : ℕ → ℕ → ℕ → Prog Plain
+behind_while m n line = bind (guard_by m n k.Do line) (behind_do m n)
+
+pub while_loop-returns-in_err-inner : goal.while_loop-returns-in_err-inner
+while_loop-returns-in_err-inner t c =
+    from_here (too_deep (λ m. behind_while m (c.args.depth.forms + 1)) c.from_residual.result
+    c.in_err-inner.ensures.err c.from_residual.ensures.1)
+
+pub while_loop-returns-in_err-head : goal.while_loop-returns-in_err-head
+while_loop-returns-in_err-head t c =
+    from_here (formed behind_while c.in_ok-inner.ensures.ok
+    (stopped (λ m. behind_do m c.in_ok-inner.inner.forms) c.from_residual-in_err-head.result c.in_err-head.ensures
+    c.from_residual-in_err-head.ensures.1))
+
+pub while_loop-returns-in_err-body : goal.while_loop-returns-in_err-body
+while_loop-returns-in_err-body t c =
+    from_here (formed behind_while c.in_ok-inner.ensures.ok
+    (behind_line {q = λ m line. guard_by m c.in_ok-inner.inner.forms k.Do line}
+    (λ m. behind_do m c.in_ok-inner.inner.forms) c.in_ok-head.ensures
+    (stopped (λ m. while_made _) c.from_residual-in_err-body.result c.in_err-body.ensures
+    c.from_residual-in_err-body.ensures.1)))
+
+pub while_loop-returns : goal.while_loop-returns
+while_loop-returns t c =
+    from_here (formed behind_while c.in_ok-inner.ensures.ok
+    (behind_line {q = λ m line. guard_by m c.in_ok-inner.inner.forms k.Do line}
+    (λ m. behind_do m c.in_ok-inner.inner.forms) c.in_ok-head.ensures
+    (and_then (λ m. while_made _) c.in_ok-body.ensures
+    (makes plain_in _ c.while_do.result c.while_do.ensures refl))))
+
+-- `for`
+abbrev for_made : ForHead → Statement → Prog Plain
+for_made f s = done (tree.for f.line f.name f.becomes f.first f.toward f.last f.do_line s)
+
+abbrev behind_for_do : ℕ → ℕ → ForHead → Prog Plain
+behind_for_do m n f = bind (statement m n) (for_made f)
+
+abbrev behind_for : ℕ → ℕ → ℕ → Prog Plain
+behind_for m n line = bind (for_head_by m n line) (behind_for_do m n)
+
+pub for_loop-returns-in_err-inner : goal.for_loop-returns-in_err-inner
+for_loop-returns-in_err-inner t c =
+    from_here (too_deep (λ m. behind_for m (c.args.depth.forms + 1)) c.from_residual.result
+    c.in_err-inner.ensures.err c.from_residual.ensures.1)
+
+pub for_loop-returns-in_err-head : goal.for_loop-returns-in_err-head
+for_loop-returns-in_err-head t c =
+    from_here (formed behind_for c.in_ok-inner.ensures.ok
+    (stopped (λ m. behind_for_do m c.in_ok-inner.inner.forms) c.from_residual-in_err-head.result c.in_err-head.ensures
+    c.from_residual-in_err-head.ensures.1))
+
+pub for_loop-returns-in_err-body : goal.for_loop-returns-in_err-body
+for_loop-returns-in_err-body t c =
+    from_here (formed behind_for c.in_ok-inner.ensures.ok
+    (behind_line {q = λ m line. for_head_by m c.in_ok-inner.inner.forms line}
+    (λ m. behind_for_do m c.in_ok-inner.inner.forms) c.in_ok-head.ensures
+    (stopped (λ m. for_made _) c.from_residual-in_err-body.result c.in_err-body.ensures
+    c.from_residual-in_err-body.ensures.1)))
+
+pub for_loop-returns : goal.for_loop-returns
+for_loop-returns t c =
+    from_here (formed behind_for c.in_ok-inner.ensures.ok
+    (behind_line {q = λ m line. for_head_by m c.in_ok-inner.inner.forms line}
+    (λ m. behind_for_do m c.in_ok-inner.inner.forms) c.in_ok-head.ensures
+    (and_then (λ m. for_made _) c.in_ok-body.ensures
+    (makes plain_in _ c.for_do.result c.for_do.ensures refl))))
+
+-- `repeat`
+abbrev repeat_made : ℕ → Statements → ℕ → Expr → Prog Plain
+repeat_made line list until e = done (tree.repeat line list until e)
+
+abbrev behind_until : ℕ → ℕ → ℕ → Statements → ℕ → Prog Plain
+behind_until m n line list until = bind (expr m n 0) (repeat_made line list until)
+
+abbrev behind_repeated : ℕ → ℕ → ℕ → Statements → Prog Plain
+behind_repeated m n line list = bind (mark k.Until) (behind_until m n line list)
+
+abbrev behind_repeat : ℕ → ℕ → ℕ → Prog Plain
+behind_repeat m n line = bind (statements m n) (behind_repeated m n line)
+
+pub repeat_loop-returns-in_err-inner : goal.repeat_loop-returns-in_err-inner
+repeat_loop-returns-in_err-inner t c =
+    from_here (too_deep (λ m. behind_repeat m (c.args.depth.forms + 1)) c.from_residual.result
+    c.in_err-inner.ensures.err c.from_residual.ensures.1)
+
+pub repeat_loop-returns-in_err-list : goal.repeat_loop-returns-in_err-list
+repeat_loop-returns-in_err-list t c =
+    let n = c.in_ok-inner.inner.forms in
+    let line = c.pass-line.result in
+    from_here (formed behind_repeat c.in_ok-inner.ensures.ok
+    (passed (λ m. behind_repeat m n) c.pass-line.ensures
+    (stopped (λ m. behind_repeated m n line) c.from_residual-in_err-list.result c.in_err-list.ensures
+    c.from_residual-in_err-list.ensures.1)))
+
+pub repeat_loop-returns-in_err-until : goal.repeat_loop-returns-in_err-until
+repeat_loop-returns-in_err-until t c =
+    let n = c.in_ok-inner.inner.forms in
+    let line = c.pass-line.result in
+    from_here (formed behind_repeat c.in_ok-inner.ensures.ok
+    (passed (λ m. behind_repeat m n) c.pass-line.ensures
+    (and_then (λ m. behind_repeated m n line) c.in_ok-list.ensures
+    (stopped (λ m. behind_until m n line _) c.from_residual-in_err-until.result c.in_err-until.ensures
+    c.from_residual-in_err-until.ensures.1))))
+
+pub repeat_loop-returns-in_err-item : goal.repeat_loop-returns-in_err-item
+repeat_loop-returns-in_err-item t c =
+    let n = c.in_ok-inner.inner.forms in
+    let line = c.pass-line.result in
+    from_here (formed behind_repeat c.in_ok-inner.ensures.ok
+    (passed (λ m. behind_repeat m n) c.pass-line.ensures
+    (and_then (λ m. behind_repeated m n line) c.in_ok-list.ensures
+    (and_then (λ m. behind_until m n line _) c.in_ok-until.ensures
+    (stopped (λ m. repeat_made line _ _) c.from_residual-in_err-item.result c.in_err-item.ensures
+    c.from_residual-in_err-item.ensures.1)))))
+
+pub repeat_loop-returns : goal.repeat_loop-returns
+repeat_loop-returns t c =
+    let n = c.in_ok-inner.inner.forms in
+    let line = c.pass-line.result in
+    from_here (formed behind_repeat c.in_ok-inner.ensures.ok
+    (passed (λ m. behind_repeat m n) c.pass-line.ensures
+    (and_then (λ m. behind_repeated m n line) c.in_ok-list.ensures
+    (and_then (λ m. behind_until m n line _) c.in_ok-until.ensures
+    (and_then (λ m. repeat_made line _ _) c.in_ok-item.ensures
+    (makes plain_in _ c.repeat_until.result c.repeat_until.ensures refl))))))
+
+-- `case`
+abbrev case_made : Guard → Arms → ℕ → Prog Plain
+case_made g all end = done (tree.case g.line g.value g.behind all.elements all.others end)
+
+abbrev behind_arms : Guard → Arms → Prog Plain
+behind_arms g all = bind (mark k.End) (case_made g all)
+
+abbrev behind_of : ℕ → ℕ → Guard → Prog Plain
+behind_of m n g = bind (arms m n) (behind_arms g)
+
+abbrev behind_case : ℕ → ℕ → ℕ → Prog Plain
+behind_case m n line = bind (guard_by m n k.Of line) (behind_of m n)
+
+pub case_statement-returns-in_err-inner : goal.case_statement-returns-in_err-inner
+case_statement-returns-in_err-inner t c =
+    from_here (too_deep (λ m. behind_case m (c.args.depth.forms + 1)) c.from_residual.result
+    c.in_err-inner.ensures.err c.from_residual.ensures.1)
+
+pub case_statement-returns-in_err-head : goal.case_statement-returns-in_err-head
+case_statement-returns-in_err-head t c =
+    from_here (formed behind_case c.in_ok-inner.ensures.ok
+    (stopped (λ m. behind_of m c.in_ok-inner.inner.forms) c.from_residual-in_err-head.result c.in_err-head.ensures
+    c.from_residual-in_err-head.ensures.1))
+
+pub case_statement-returns-in_err-arms : goal.case_statement-returns-in_err-arms
+case_statement-returns-in_err-arms t c =
+    from_here (formed behind_case c.in_ok-inner.ensures.ok
+    (behind_line {q = λ m line. guard_by m c.in_ok-inner.inner.forms k.Of line}
+    (λ m. behind_of m c.in_ok-inner.inner.forms) c.in_ok-head.ensures
+    (stopped (λ m. behind_arms _) c.from_residual-in_err-arms.result c.in_err-arms.ensures
+    c.from_residual-in_err-arms.ensures.1)))
+
+pub case_statement-returns-in_err-end : goal.case_statement-returns-in_err-end
+case_statement-returns-in_err-end t c =
+    from_here (formed behind_case c.in_ok-inner.ensures.ok
+    (behind_line {q = λ m line. guard_by m c.in_ok-inner.inner.forms k.Of line}
+    (λ m. behind_of m c.in_ok-inner.inner.forms) c.in_ok-head.ensures
+    (and_then (λ m. behind_arms _) c.in_ok-arms.ensures
+    (stopped (λ m. case_made _ _) c.from_residual-in_err-end.result c.in_err-end.ensures
+    c.from_residual-in_err-end.ensures.1))))
+
+pub case_statement-returns : goal.case_statement-returns
+case_statement-returns t c =
+    from_here (formed behind_case c.in_ok-inner.ensures.ok
+    (behind_line {q = λ m line. guard_by m c.in_ok-inner.inner.forms k.Of line}
+    (λ m. behind_of m c.in_ok-inner.inner.forms) c.in_ok-head.ensures
+    (and_then (λ m. behind_arms _) c.in_ok-arms.ensures
+    (and_then (λ m. case_made _ _) c.in_ok-end.ensures
+    (makes plain_in _ c.case_of.result c.case_of.ensures refl)))))
+
+-- `if`
+abbrev behind_chosen : ℕ → ℕ → Guard → Statement → Prog Plain
+behind_chosen m n g s = look (else_at (statement m) m n g s)
+
+abbrev behind_then : ℕ → ℕ → Guard → Prog Plain
+behind_then m n g = bind (statement m n) (behind_chosen m n g)
+
+abbrev behind_if : ℕ → ℕ → ℕ → Prog Plain
+behind_if m n line = bind (guard_by m n k.Then line) (behind_then m n)
+
+pub conditional-returns-in_err-inner : goal.conditional-returns-in_err-inner
+conditional-returns-in_err-inner t c =
+    from_here (too_deep (λ m. behind_if m (c.args.depth.forms + 1)) c.from_residual.result
+    c.in_err-inner.ensures.err c.from_residual.ensures.1)
+
+pub conditional-returns-in_err-head : goal.conditional-returns-in_err-head
+conditional-returns-in_err-head t c =
+    from_here (formed behind_if c.in_ok-inner.ensures.ok
+    (stopped (λ m. behind_then m c.in_ok-inner.inner.forms) c.from_residual-in_err-head.result c.in_err-head.ensures
+    c.from_residual-in_err-head.ensures.1))
+
+pub conditional-returns-in_err-chosen : goal.conditional-returns-in_err-chosen
+conditional-returns-in_err-chosen t c =
+    from_here (formed behind_if c.in_ok-inner.ensures.ok
+    (behind_line {q = λ m line. guard_by m c.in_ok-inner.inner.forms k.Then line}
+    (λ m. behind_then m c.in_ok-inner.inner.forms) c.in_ok-head.ensures
+    (stopped (λ m. behind_chosen m c.in_ok-inner.inner.forms _) c.from_residual-in_err-chosen.result
+    c.in_err-chosen.ensures c.from_residual-in_err-chosen.ensures.1)))
+
+abbrev else_made : Guard → Statement → ℕ → Statement → Prog Plain
+else_made g s line t = done (tree.if_else g.line g.value g.behind s line t)
+
+abbrev behind_else : ℕ → ℕ → Guard → Statement → ℕ → Prog Plain
+behind_else m n g s line = bind (statement m n) (else_made g s line)
+
+pub conditional-returns-in_err-other-in-Else : goal.conditional-returns-in_err-other-in-Else
+conditional-returns-in_err-other-in-Else t c =
+    let n = c.in_ok-inner.inner.forms in
+    from_here (formed behind_if c.in_ok-inner.ensures.ok
+    (behind_line {q = λ m line. guard_by m n k.Then line} (λ m. behind_then m n) c.in_ok-head.ensures
+    (and_then (λ m. behind_chosen m n _) c.in_ok-chosen.ensures
+    (comes (λ m. else_at (statement m) m n _ _) k.Else tt c.in-Else.ensures.kind c.in-Else.ensures.fits
+    (more_from (omega arith) (passed (λ m. behind_else m n _ _) c.pass-line.ensures
+    (stopped (λ m. else_made _ _ c.pass-line.result) c.from_residual-in_err-other-in-Else.result
+    c.in_err-other-in-Else.ensures c.from_residual-in_err-other-in-Else.ensures.1)))))))
+
+pub conditional-returns-in_ok-other-in-Else : goal.conditional-returns-in_ok-other-in-Else
+conditional-returns-in_ok-other-in-Else t c =
+    let n = c.in_ok-inner.inner.forms in
+    from_here (formed behind_if c.in_ok-inner.ensures.ok
+    (behind_line {q = λ m line. guard_by m n k.Then line} (λ m. behind_then m n) c.in_ok-head.ensures
+    (and_then (λ m. behind_chosen m n _) c.in_ok-chosen.ensures
+    (comes (λ m. else_at (statement m) m n _ _) k.Else tt c.in-Else.ensures.kind c.in-Else.ensures.fits
+    (more_from (omega arith) (passed (λ m. behind_else m n _ _) c.pass-line.ensures
+    (and_then (λ m. else_made _ _ c.pass-line.result) c.in_ok-other-in-Else.ensures
+    (makes plain_in _ c.if_else-in-Else.result c.if_else-in-Else.ensures refl))))))))
+
+pub conditional-returns-in_default : goal.conditional-returns-in_default
+conditional-returns-in_default t c =
+    let n = c.in_ok-inner.inner.forms in
+    from_here (formed behind_if c.in_ok-inner.ensures.ok
+    (behind_line {q = λ m line. guard_by m n k.Then line} (λ m. behind_then m n) c.in_ok-head.ensures
+    (and_then (λ m. behind_chosen m n _) c.in_ok-chosen.ensures
+    (goes_from (λ m. no_else_comes (statement m) m n _ _ c.statement.new.reader.tokens
+    (λ e. c.in_default.not-Else (c.kind.ensures.kind ∙ sym e)))
+    (makes plain_in _ c.if_then.result c.if_then.ensures refl)))))
+
+-- a label and a statement
+abbrev label_made : Numeral → ℕ → Plain → Prog Statement
+label_made label colon s = done (tree.labelled label colon s)
+
+abbrev behind_colon : ℕ → ℕ → Numeral → ℕ → Prog Statement
+behind_colon m n label colon = bind (plain m n) (label_made label colon)
+
+abbrev behind_label : ℕ → ℕ → Numeral → Prog Statement
+behind_label m n label = labelled_by (statement m) m n label
+
+pub statement-returns-in_err-numeral-in-Number : goal.statement-returns-in_err-numeral-in-Number
+statement-returns-in_err-numeral-in-Number t c =
+    let n = c.args.depth.forms in
+    statement_takes n (goes_as (λ m. number_comes (statement m) m n c.args.reader.now.tokens c.in-Number.ensures.kind
+    c.in-Number.ensures.fits)
+    (from_here (stopped (λ m. behind_label m n) c.from_residual.result
+    (any_turns numeral c.in_err-numeral-in-Number.ensures) c.from_residual.ensures.1)))
+
+pub statement-returns-in_err-colon-in-Number : goal.statement-returns-in_err-colon-in-Number
+statement-returns-in_err-colon-in-Number t c =
+    let n = c.args.depth.forms in
+    statement_takes n (goes_as (λ m. number_comes (statement m) m n c.args.reader.now.tokens c.in-Number.ensures.kind
+    c.in-Number.ensures.fits)
+    (from_here (then_in (λ m. behind_label m n) c.in_ok-numeral-in-Number.ensures.shorter
+    (any_turns numeral c.in_ok-numeral-in-Number.ensures)
+    (stopped (λ m. behind_colon m n _) c.from_residual-in_err-colon-in-Number.result
+    (any_turns (mark k.Colon) c.in_err-colon-in-Number.ensures) c.from_residual-in_err-colon-in-Number.ensures.1))))
+
+pub statement-returns-in_err-plain-in-Number : goal.statement-returns-in_err-plain-in-Number
+statement-returns-in_err-plain-in-Number t c =
+    let n = c.args.depth.forms in
+    statement_takes n (goes_as (λ m. number_comes (statement m) m n c.args.reader.now.tokens c.in-Number.ensures.kind
+    c.in-Number.ensures.fits)
+    (from_here (then_in (λ m. behind_label m n) c.in_ok-numeral-in-Number.ensures.shorter
+    (any_turns numeral c.in_ok-numeral-in-Number.ensures)
+    (then_in (λ m. behind_colon m n _) c.in_ok-colon-in-Number.ensures.shorter
+    (any_turns (mark k.Colon) c.in_ok-colon-in-Number.ensures)
+    (stopped (λ m. label_made _ _) c.from_residual-in_err-plain-in-Number.result c.in_err-plain-in-Number.ensures
+    c.from_residual-in_err-plain-in-Number.ensures.1)))))
+
+pub statement-returns-in_ok-plain-in-Number : goal.statement-returns-in_ok-plain-in-Number
+statement-returns-in_ok-plain-in-Number t c =
+    let n = c.args.depth.forms in
+    statement_takes n (goes_as (λ m. number_comes (statement m) m n c.args.reader.now.tokens c.in-Number.ensures.kind
+    c.in-Number.ensures.fits)
+    (from_here (then_in (λ m. behind_label m n) c.in_ok-numeral-in-Number.ensures.shorter
+    (any_turns numeral c.in_ok-numeral-in-Number.ensures)
+    (then_in (λ m. behind_colon m n _) c.in_ok-colon-in-Number.ensures.shorter
+    (any_turns (mark k.Colon) c.in_ok-colon-in-Number.ensures)
+    (then_in (λ m. label_made _ _) (omega arith) c.in_ok-plain-in-Number.ensures
+    (makes {least = 0} statement_in _ c.labelled-in-Number.result c.labelled-in-Number.ensures refl))))))
+
+-- a statement without a label
+pub plain-returns-in-If : goal.plain-returns-in-If
+plain-returns-in-If t c =
+    looks_at (λ m. plain_at (statement m) m c.args.depth.forms) k.If tt (sym c.in-If.ensures.kind) c.in-If.ensures.fits
+    c.conditional-in-If.ensures
+
+pub plain-returns-in-Case : goal.plain-returns-in-Case
+plain-returns-in-Case t c =
+    looks_at (λ m. plain_at (statement m) m c.args.depth.forms) k.Case tt (sym c.in-Case.ensures.kind)
+    c.in-Case.ensures.fits c.case_statement-in-Case.ensures
+
+pub plain-returns-in-While : goal.plain-returns-in-While
+plain-returns-in-While t c =
+    looks_at (λ m. plain_at (statement m) m c.args.depth.forms) k.While tt (sym c.in-While.ensures.kind)
+    c.in-While.ensures.fits c.while_loop-in-While.ensures
+
+pub plain-returns-in-Repeat : goal.plain-returns-in-Repeat
+plain-returns-in-Repeat t c =
+    looks_at (λ m. plain_at (statement m) m c.args.depth.forms) k.Repeat tt (sym c.in-Repeat.ensures.kind)
+    c.in-Repeat.ensures.fits c.repeat_loop-in-Repeat.ensures
+
+pub plain-returns-in-For : goal.plain-returns-in-For
+plain-returns-in-For t c =
+    looks_at (λ m. plain_at (statement m) m c.args.depth.forms) k.For tt (sym c.in-For.ensures.kind)
+    c.in-For.ensures.fits c.for_loop-in-For.ensures
+
+pub plain-returns-in-Name : goal.plain-returns-in-Name
+plain-returns-in-Name t c =
+    goes_as (λ m. name_comes (statement m) m c.args.depth.forms c.args.reader.now.tokens c.in-Name.ensures.kind
+    c.in-Name.ensures.fits) c.named_statement-in-Name.ensures
+
+pub plain-returns-in-With : goal.plain-returns-in-With
+plain-returns-in-With t c =
+    looks_at (λ m. plain_at (statement m) m c.args.depth.forms) k.With tt (sym c.in-With.ensures.kind)
+    c.in-With.ensures.fits (goes_as (λ m. refl) is_left_out)
+
+pub plain-returns-in_default : goal.plain-returns-in_default
+plain-returns-in_default t c =
+    let not = c.in_default in
+    let is = c.kind.ensures.kind in
+    goes_as (λ m. ap (λ q. run q c.args.reader.now.tokens) (nothing_comes (statement m) m c.args.depth.forms _ _ _
+    (λ e. not.not-Name (is ∙ sym e)) (λ e. not.not-Begin (is ∙ sym e)) (λ e. not.not-If (is ∙ sym e))
+    (λ e. not.not-Case (is ∙ sym e)) (λ e. not.not-While (is ∙ sym e)) (λ e. not.not-Repeat (is ∙ sym e))
+    (λ e. not.not-For (is ∙ sym e)) (λ e. not.not-Goto (is ∙ sym e)) (λ e. not.not-With (is ∙ sym e))))
+    (answers (sym (empty_seen _)))
+
+-- statements, one after the other
+semicolon_goes : (m n : ℕ) (list : Statements) (ts : List Token) (line : ℕ) → k.Semicolon ≡ (head ts).kind
+    → Fits (head ts).kind (head ts).payload → line ≡ (head ts).line
+    → run (a_turn (behind_statement (statement m) m n) list) ts
+    ≡ run (skip (bind (statement m n) (λ s. done (tree.more_statements list line s)))) ts
+semicolon_goes m n list ts line is fits same =
+    told (λ kind payload line. turn_of (behind_statement (statement m) m n list kind payload line)) k.Semicolon ts line
+    tt is fits same
+
+statements_end : (m n : ℕ) (list : Statements) (kind : Kind) (payload : Payload) (line : ℕ) → (k.Semicolon ≡ kind → ⊥)
+    → behind_statement (statement m) m n list kind payload line ≡ ends
+statements_end m n list k.Semicolon payload line not = absurd (not refl)
+statements_end m n list kind payload line not = refl
+
+pub statements-returns-in_err-first : goal.statements-returns-in_err-first
+statements-returns-in_err-first t c =
+    let n = c.args.depth.forms in
+    from_here (stopped (λ m first. turns (behind_statement (statement m) m n) m (tree.first_statement first))
+    c.from_residual.result c.in_err-first.ensures c.from_residual.ensures.1)
+
+pub statements-more-init : goal.statements-more-init
+statements-more-init t c =
+    let s = c.args.reader.now.spellings in
+    let n = c.args.depth.forms in
+    let start = tree.first_statement (statement_in s c.in_ok-first.first) in
+    subst (λ xs. SoFar (λ m. statements m n) (λ m. behind_statement (statement m) m n) c.args.reader.now
+    c.statement.new.reader (in_turn start (map (more_statement_in s) xs))) (sym c.new-more.ensures)
+    (begun_behind tree.first_statement c.in_ok-first.ensures)
+
+pub statements-returns-in_err-statement-in-Semicolon : goal.statements-returns-in_err-statement-in-Semicolon
+statements-returns-in_err-statement-in-Semicolon t c =
+    let s = c.args.reader.now.spellings in
+    let n = c.args.depth.forms in
+    let list = in_turn (tree.first_statement (statement_in s c.in_ok-first.first))
+        (map (more_statement_in s) c.more.more) in
+    let line = c.pass-line.result in
+    returned (err_from_is_err_and _ c.from_residual-in_err-statement-in-Semicolon.ensures.1)
+    (turn_stops {view = λ s x. tree.more_statements list line (statement_in s x)} c.more.invariant
+    (goes_as (λ m. semicolon_goes m n list c.more.reader.tokens line c.in-Semicolon.ensures.kind
+    c.in-Semicolon.ensures.fits (line_of_head c.pass-line.ensures))
+    (skips c.pass-line.ensures (omega arith)
+    (stops (λ m x. done (tree.more_statements list line x)) c.in_err-statement-in-Semicolon.ensures))))
+
+pub statements-more-preserved : goal.statements-more-preserved
+statements-more-preserved t c =
+    let s = c.args.reader.now.spellings in
+    let n = c.args.depth.forms in
+    let start = tree.first_statement (statement_in s c.in_ok-first.first) in
+    let list = in_turn start (map (more_statement_in s) c.more.more) in
+    let line = c.pass-line.result in
+    let found = c.in_ok-statement-in-Semicolon.statement in
+    let read = c.in_ok-statement-in-Semicolon.ensures in
+    let passed = c.pass-line.ensures in
+    let one : in_turn start (map (more_statement_in s) c.push.new.self)
+        ≡ tree.more_statements list line (statement_in s found) =
+    pushed_in_turn start (more_statement_in s) c.more.more _ _ c.in_ok-push-in-Semicolon.ensures.ok
+    ∙ ap (λ f. f list) (more_statement_seen s (record { line = line; statement = found })) in
+    let count : length c.more.reader.tokens ≡ suc (length c.pass-line.new.self.tokens) = ap length passed.tokens in
+    subst (λ found. SoFar (λ m. statements m n) (λ m. behind_statement (statement m) m n) c.args.reader.now
+    c.statement-in-Semicolon.new.reader found) (sym one)
+    (turned {view = λ s x. tree.more_statements list line (statement_in s x)} {x = found} c.more.invariant
+    (goes_as (λ m. semicolon_goes m n list c.more.reader.tokens line c.in-Semicolon.ensures.kind
+    c.in-Semicolon.ensures.fits (line_of_head passed))
+    (skips passed (omega arith)
+    (goes_on (λ m x. done (tree.more_statements list line x)) read
+    (answers (ap (λ s. tree.more_statements list line (statement_in s found)) (sym read.spellings))))))
+    (omega (arith, count, read.shorter)))
+
+pub statements-returns-in_default : goal.statements-returns-in_default
+statements-returns-in_default t c =
+    let s = c.args.reader.now.spellings in
+    let n = c.args.depth.forms in
+    loop_ends c.more.invariant
+    (λ m. statements_end m n _ _ _ _ (λ e. c.in_default.not-Semicolon (c.kind.ensures.kind ∙ sym e)))
+    (sym (statements_seen s (record { first = c.in_ok-first.first; more = c.more.more })))
+
+-- an element behind its constants
+abbrev element_made : Separated Constant → ℕ → Statement → Prog Element
+element_made constants colon s = done (record { constants = constants; colon = colon; statement = s })
+
+abbrev behind_element_colon : ℕ → ℕ → Separated Constant → ℕ → Prog Element
+behind_element_colon m n constants colon = bind (statement m n) (element_made constants colon)
