@@ -8,6 +8,10 @@ use Rattle.pas_tokens.specs.declared.kinds.Kind.{Kind}
 use Rattle.pas_tokens.specs.declared.kinds.Kind.TheVariants as k
 use Rattle.pas_tokens.specs.Cutting.{Payload, nothing, value, spelling}
 use Rattle.pas_tokens.specs.Tokens.{Token}
+use Rattle.pas_syntax.specs.declared.stop.Stop.{Stop}
+use Rattle.pas_syntax.specs.declared.tree.Constant.{Constant as CodeConstant}
+use Rattle.pas_syntax.specs.declared.tree.Separated.{Separated as CodeSeparated}
+use Rattle.pas_syntax.specs.declared.tree.Element.{Element as CodeElement}
 use Rattle.pas_syntax.specs.Tree as tree
 use Rattle.pas_syntax.specs.Tree.{Constant, Separated, Statement, Elements, Others}
 use Rattle.pas_syntax.specs.inner.Prog.{Prog, done, look, skip, bind, Out, run, head, and_then, Next, ends, turns}
@@ -15,8 +19,9 @@ use Rattle.pas_syntax.specs.inner.Places.{Place, Fits, Passes, Parses, same}
 use Rattle.pas_syntax.specs.inner.Marks.{same_kind, maybe_if, maybe_mark}
 use Rattle.pas_syntax.specs.inner.TypeReaders.{items_by, constant}
 use Rattle.pas_syntax.specs.inner.StatementReaders.{Arm, one_more, tail, others_line, element_by, others_by, colon_behind}
-use Rattle.pas_syntax.specs.inner.StatementReaders.{behind_constants, next_arm_at, behind_arm_by, with_line}
-use Rattle.pas_syntax.specs.inner.StatementViews.{others_before_colon}
+use Rattle.pas_syntax.specs.inner.StatementReaders.{behind_constants, next_arm_at, behind_arm_by, with_line, element}
+use Rattle.pas_syntax.specs.inner.StatementViews.{others_before_colon, an_element_in}
+use Rattle.pas_syntax.specs.Views.{constant_in, separated_in}
 use Rattle.pas_syntax.proofs.ProgLemmas.{run_bind, rest_of}
 use Rattle.pas_syntax.proofs.SoFar.{SoFar}
 
@@ -148,7 +153,7 @@ module _ (s : ℕ → Prog Statement) (m n : ℕ) where
     element_at : (constants : Separated Constant) (kind : Kind) (payload : Payload) (colon : ℕ)
         → None ≡ others_before_colon kind constants
         → behind_constants s m n line constants kind payload colon
-        ≡ bind (element_by s m n constants) (λ element. done (one_more element))
+        ≡ bind (element_by s m n constants) (λ found. done (one_more found))
     element_at constants k.Colon nothing colon is = ap (colon_behind s m n line constants colon) (sym is)
     element_at constants k.Colon (value number) colon is = refl
     element_at constants k.Colon (spelling bytes) colon is = refl
@@ -157,7 +162,7 @@ module _ (s : ℕ → Prog Statement) (m n : ℕ) where
     pub element_comes : (constants : Separated Constant) (ts : List Token)
         → None ≡ others_before_colon (head ts).kind constants
         → run (look (behind_constants s m n line constants)) ts
-        ≡ run (bind (element_by s m n constants) (λ element. done (one_more element))) ts
+        ≡ run (bind (element_by s m n constants) (λ found. done (one_more found))) ts
     element_comes constants ts is =
         ap (λ q. run q ts) (element_at constants (head ts).kind (head ts).payload (head ts).line is)
 
@@ -169,7 +174,7 @@ at_colon kind constants name is = absurd cc
 
 -- what ends the elements is there
 abbrev IsReal : Arm → Type 0
-IsReal (one_more element) = ⊤
+IsReal (one_more found) = ⊤
 IsReal (tail tree.no_others) = ⊥
 IsReal (tail there) = ⊤
 
@@ -198,10 +203,10 @@ module _ (s : ℕ → Prog Statement) (m n line : ℕ) (b : Arm) (us : List Toke
       (λ last ws g. done_real (tail (tree.others line name colon x last)) b ws us tt g) f) e
 
   element_real : (constants : Separated Constant) (ts : List Token)
-      → run (bind (element_by s m n constants) (λ element. done (one_more element))) ts ≡ Ok (b, us) → IsReal b
+      → run (bind (element_by s m n constants) (λ found. done (one_more found))) ts ≡ Ok (b, us) → IsReal b
   element_real constants ts e =
-      real_behind (element_by s m n constants) (λ element. done (one_more element)) b ts us
-      (λ element vs f. done_real (one_more element) b vs us tt f) e
+      real_behind (element_by s m n constants) (λ found. done (one_more found)) b ts us
+      (λ found vs f. done_real (one_more found) b vs us tt f) e
 
   colon_real : (constants : Separated Constant) (colon : ℕ) (there : Option ℕ) (ts : List Token)
       → run (colon_behind s m n line constants colon there) ts ≡ Ok (b, us) → IsReal b
@@ -261,3 +266,16 @@ so_far_as is so = record {
   taken = so.taken;
   spellings = so.spellings;
 }
+
+-- a token that is passed says what its kind says
+pub fits_passed : {old new : Place} {line : ℕ} → Passes old line new
+    → Fits (head old.tokens).kind (head old.tokens).payload
+fits_passed h = subst (λ t. Fits t.kind t.payload) (ap head (sym h.tokens)) h.fits
+
+-- an element behind constants, where the text has these spellings
+pub element_read : {n : ℕ} {spellings : List ℕ} {old new : Place} {result : Result CodeElement Stop}
+    (constants : CodeSeparated CodeConstant) → old.spellings ≡ spellings
+    → Parses (λ m. element m n (separated_in (constant_in old.spellings) constants)) an_element_in old result new
+    → Parses (λ m. element m n (separated_in (constant_in spellings) constants)) an_element_in old result new
+element_read {n = n} {old = old} {new = new} {result = result} constants is h =
+    subst (λ s. Parses (λ m. element m n (separated_in (constant_in s) constants)) an_element_in old result new) is h

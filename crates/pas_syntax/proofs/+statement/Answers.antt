@@ -1,5 +1,5 @@
 use Rattle.std.proofs.Common.{◌≡◌, ◌∙◌, refl, sym, ap, subst, arith, ℕ, suc, Option, Ok, Err, ◌+◌, ◌-◌, ◌≤◌, ◌<◌, List, [], ◌∷◌}
-use Rattle.std.proofs.Common.{length, map}
+use Rattle.std.proofs.Common.{length, map, Some, None}
 use Rattle.std.proofs.lemmas.Result.{err_from_is_err_and}
 use Rattle.pas_tokens.specs.declared.kinds.Kind.{Kind}
 use Rattle.pas_tokens.specs.declared.kinds.Kind.TheVariants as k
@@ -8,23 +8,27 @@ use Rattle.pas_tokens.specs.Tokens.{Token}
 use Rattle.pas_syntax.specs.declared.limits.TheConstants.{NESTING_LIMIT}
 use Rattle.pas_syntax.specs.Tree as tree
 use Rattle.pas_syntax.specs.Tree.{Separated, Constant, Numeral, Expr, Plain, Statement, Statements, Compound, Elements}
-use Rattle.pas_syntax.specs.Views.{in_turn, expr_in}
+use Rattle.pas_syntax.specs.declared.tree.Plain.TheVariants as code_plain
+use Rattle.pas_syntax.specs.Nearest.{last_item}
+use Rattle.pas_syntax.specs.Views.{in_turn, expr_in, constant_in, separated_in}
 use Rattle.pas_syntax.specs.ProgramViews.{plain_in, statement_in, statements_in, more_statement_in, elements_in}
-use Rattle.pas_syntax.specs.ProgramViews.{others_in}
+use Rattle.pas_syntax.specs.ProgramViews.{others_in, compound_in, element_in}
+use Rattle.pas_syntax.specs.inner.StatementViews.{an_element_in, arm_in, arms_in}
 use Rattle.pas_syntax.specs.inner.Prog.{Prog, done, turns, look, skip, bind, head, run, ends, turn_of, a_turn}
 use Rattle.pas_syntax.specs.inner.Places.{Fits}
 use Rattle.pas_syntax.specs.inner.Readers.{expr}
 use Rattle.pas_syntax.specs.inner.Marks.{mark}
 use Rattle.pas_syntax.specs.inner.StatementReaders.{Guard, ForHead, Element, Arms, numeral, guard_by, for_head_by, else_at, plain_at}
 use Rattle.pas_syntax.specs.inner.StatementReaders.{labelled_by, behind_statement, behind_statement_name, compound_by}
-use Rattle.pas_syntax.specs.inner.StatementReaders.{statement, statements, plain, arms, statement_at}
+use Rattle.pas_syntax.specs.inner.StatementReaders.{statement, statements, plain, arms, statement_at, with_line}
+use Rattle.pas_syntax.specs.inner.StatementReaders.{is_others, unless_others}
 use Rattle.pas_syntax.proofs.PlaceLemmas.{returned, stops, goes_on, goes_as, skips, line_of_head, kept_no_memory}
-use Rattle.pas_syntax.proofs.PlaceLemmas.{with_more, is_left_out, answers, any_turns, told}
+use Rattle.pas_syntax.proofs.PlaceLemmas.{with_more, is_left_out, is_misplaced, answers, any_turns, told, no_memory}
 use Rattle.pas_syntax.proofs.PlaceSteps.{from_here, and_then, behind_line, stopped, passed, formed, too_deep, read, makes}
 use Rattle.pas_syntax.proofs.PlaceSteps.{looks_at, then_in, comes, goes_from, more_from}
 use Rattle.pas_syntax.proofs.SoFar.{SoFar, begun_behind, turned, turn_stops, loop_ends}
 use Rattle.pas_syntax.proofs.StatementSeen.{unlabelled_seen, empty_seen, goto_seen, compound_seen, plain_compound_seen}
-use Rattle.pas_syntax.proofs.StatementSeen.{statements_seen, more_statement_seen}
+use Rattle.pas_syntax.proofs.StatementSeen.{statements_seen, more_statement_seen, element_seen}
 use Rattle.pas_syntax.proofs.StatementSteps.{number_comes, no_number_comes, name_comes, nothing_comes, statement_takes}
 use Rattle.pas_syntax.proofs.StatementSteps.{no_else_comes}
 use Rattle.pas_syntax.proofs.ExprViews.{pushed_in_turn}
@@ -496,9 +500,141 @@ statements-returns-in_default t c =
     (λ m. statements_end m n _ _ _ _ (λ e. c.in_default.not-Semicolon (c.kind.ensures.kind ∙ sym e)))
     (sym (statements_seen s (record { first = c.in_ok-first.first; more = c.more.more })))
 
+pub statement-returns-in_err-plain-in_default : goal.statement-returns-in_err-plain-in_default
+statement-returns-in_err-plain-in_default t c =
+    let n = c.args.depth.forms in
+    statement_takes n (goes_as (λ m. no_number_comes (statement m) m n c.args.reader.now.tokens
+    (λ e. c.in_default.not-Number (c.kind.ensures.kind ∙ sym e)))
+    (from_here (stopped (λ m s. done (tree.unlabelled s)) c.from_residual-in_err-plain-in_default.result
+    c.in_err-plain-in_default.ensures c.from_residual-in_err-plain-in_default.ensures.1)))
+
+pub statement-returns-in_ok-plain-in_default : goal.statement-returns-in_ok-plain-in_default
+statement-returns-in_ok-plain-in_default t c =
+    let n = c.args.depth.forms in
+    let found = c.in_ok-plain-in_default.field-0 in
+    let got = c.in_ok-plain-in_default.ensures in
+    statement_takes n (goes_as (λ m. no_number_comes (statement m) m n c.args.reader.now.tokens
+    (λ e. c.in_default.not-Number (c.kind.ensures.kind ∙ sym e)))
+    (goes_on (λ m s. done (tree.unlabelled s)) got
+    (answers (ap (λ s. tree.unlabelled (plain_in s found)) (sym got.spellings) ∙ sym (unlabelled_seen _ found)))))
+
+-- a compound statement, and a jump
+abbrev body_made : Compound → Prog Plain
+body_made body = done (tree.compound body.begin body.list body.end)
+
+abbrev goto_made : ℕ → Numeral → Prog Plain
+goto_made line label = done (tree.goto line label)
+
+abbrev behind_goto : ℕ → Prog Plain
+behind_goto line = bind numeral (goto_made line)
+
+pub plain-returns-in_err-body-in-Begin : goal.plain-returns-in_err-body-in-Begin
+plain-returns-in_err-body-in-Begin t c =
+    let n = c.args.depth.forms in
+    looks_at (λ m. plain_at (statement m) m n) k.Begin tt (sym c.in-Begin.ensures.kind) c.in-Begin.ensures.fits
+    (from_here (stopped {p = λ m. with_line (compound_by (statement m) m n)} (λ m. body_made) c.from_residual.result
+    c.in_err-body-in-Begin.ensures c.from_residual.ensures.1))
+
+pub plain-returns-in_err-new-in-Begin : goal.plain-returns-in_err-new-in-Begin
+plain-returns-in_err-new-in-Begin t c =
+    let n = c.args.depth.forms in
+    returned (err_from_is_err_and _ c.from_residual-in_err-new-in-Begin.ensures.1)
+    (looks_at (λ m. plain_at (statement m) m n) k.Begin tt (sym c.in-Begin.ensures.kind) c.in-Begin.ensures.fits
+    (goes_on {p = λ m. with_line (compound_by (statement m) m n)} (λ m. body_made) c.in_ok-body-in-Begin.ensures
+    no_memory))
+
+pub plain-returns-in_ok-new-in-Begin : goal.plain-returns-in_ok-new-in-Begin
+plain-returns-in_ok-new-in-Begin t c =
+    let n = c.args.depth.forms in
+    let body = c.in_ok-body-in-Begin.body in
+    let got = c.in_ok-body-in-Begin.ensures in
+    looks_at (λ m. plain_at (statement m) m n) k.Begin tt (sym c.in-Begin.ensures.kind) c.in-Begin.ensures.fits
+    (goes_on {p = λ m. with_line (compound_by (statement m) m n)} (λ m. body_made) got
+    (answers (ap (λ s. tree.compound (compound_in s body).begin (compound_in s body).list (compound_in s body).end)
+    (sym got.spellings) ∙ sym (plain_compound_seen _ body)
+    ∙ sym (ap (λ b. plain_in c.compound.new.reader.spellings (code_plain.Compound b)) c.in_ok-new-in-Begin.ensures))))
+
+pub plain-returns-in_err-numeral-in-Goto : goal.plain-returns-in_err-numeral-in-Goto
+plain-returns-in_err-numeral-in-Goto t c =
+    looks_at (λ m. plain_at (statement m) m c.args.depth.forms) k.Goto tt (sym c.in-Goto.ensures.kind)
+    c.in-Goto.ensures.fits
+    (from_here (passed (λ m. behind_goto) c.pass-line.ensures
+    (stopped (λ m. goto_made c.pass-line.result) c.from_residual-in_err-numeral-in-Goto.result
+    c.in_err-numeral-in-Goto.ensures c.from_residual-in_err-numeral-in-Goto.ensures.1)))
+
+pub plain-returns-in_ok-numeral-in-Goto : goal.plain-returns-in_ok-numeral-in-Goto
+plain-returns-in_ok-numeral-in-Goto t c =
+    looks_at (λ m. plain_at (statement m) m c.args.depth.forms) k.Goto tt (sym c.in-Goto.ensures.kind)
+    c.in-Goto.ensures.fits
+    (from_here (passed (λ m. behind_goto) c.pass-line.ensures
+    (and_then (λ m. goto_made c.pass-line.result) c.in_ok-numeral-in-Goto.ensures
+    (read (sym (goto_seen _ c.pass-line.result _))))))
+
+pub statements-returns-in_err-push-in-Semicolon : goal.statements-returns-in_err-push-in-Semicolon
+statements-returns-in_err-push-in-Semicolon t c =
+    let s = c.args.reader.now.spellings in
+    let n = c.args.depth.forms in
+    let list = in_turn (tree.first_statement (statement_in s c.in_ok-first.first))
+        (map (more_statement_in s) c.more.more) in
+    let line = c.pass-line.result in
+    returned (err_from_is_err_and _ c.from_residual-in_err-push-in-Semicolon.ensures.1)
+    (turn_stops {view = λ s x. tree.more_statements list line (statement_in s x)} c.more.invariant
+    (goes_as (λ m. semicolon_goes m n list c.more.reader.tokens line c.in-Semicolon.ensures.kind
+    c.in-Semicolon.ensures.fits (line_of_head c.pass-line.ensures))
+    (skips c.pass-line.ensures (omega arith)
+    (goes_on (λ m x. done (tree.more_statements list line x)) c.in_ok-statement-in-Semicolon.ensures no_memory))))
+
 -- an element behind its constants
 abbrev element_made : Separated Constant → ℕ → Statement → Prog Element
 element_made constants colon s = done (record { constants = constants; colon = colon; statement = s })
 
 abbrev behind_element_colon : ℕ → ℕ → Separated Constant → ℕ → Prog Element
 behind_element_colon m n constants colon = bind (statement m n) (element_made constants colon)
+
+pub element-returns-then-is_others : goal.element-returns-then-is_others
+element-returns-then-is_others t c =
+    let s = c.args.reader.now.spellings in
+    let constants = separated_in (constant_in s) c.args.constants in
+    goes_as (λ m. ap (λ b. run (unless_others b (bind (mark k.Colon) (behind_element_colon m c.args.depth.forms
+    constants))) c.args.reader.now.tokens)
+    (ap is_others (sym (c.last_of.ensures s)) ∙ sym c.is_others.ensures ∙ c.if-is_others.true)) is_misplaced
+
+pub element-returns-in_err-colon : goal.element-returns-in_err-colon
+element-returns-in_err-colon t c =
+    let s = c.args.reader.now.spellings in
+    let n = c.args.depth.forms in
+    let constants = separated_in (constant_in s) c.args.constants in
+    goes_as (λ m. ap (λ b. run (unless_others b (bind (mark k.Colon) (behind_element_colon m n constants)))
+    c.args.reader.now.tokens)
+    (ap is_others (sym (c.last_of.ensures s)) ∙ sym c.is_others.ensures ∙ c.if-is_others.false))
+    (from_here (stopped (λ m. behind_element_colon m n constants) c.from_residual.result c.in_err-colon.ensures
+    c.from_residual.ensures.1))
+
+pub element-returns-in_err-statement : goal.element-returns-in_err-statement
+element-returns-in_err-statement t c =
+    let s = c.args.reader.now.spellings in
+    let n = c.args.depth.forms in
+    let constants = separated_in (constant_in s) c.args.constants in
+    goes_as (λ m. ap (λ b. run (unless_others b (bind (mark k.Colon) (behind_element_colon m n constants)))
+    c.args.reader.now.tokens)
+    (ap is_others (sym (c.last_of.ensures s)) ∙ sym c.is_others.ensures ∙ c.if-is_others.false))
+    (from_here (and_then (λ m. behind_element_colon m n constants) c.in_ok-colon.ensures
+    (stopped (λ m. element_made constants c.in_ok-colon.colon) c.from_residual-in_err-statement.result
+    c.in_err-statement.ensures c.from_residual-in_err-statement.ensures.1)))
+
+pub element-returns : goal.element-returns
+element-returns t c =
+    let s = c.args.reader.now.spellings in
+    let n = c.args.depth.forms in
+    let constants = separated_in (constant_in s) c.args.constants in
+    goes_as (λ m. ap (λ b. run (unless_others b (bind (mark k.Colon) (behind_element_colon m n constants)))
+    c.args.reader.now.tokens)
+    (ap is_others (sym (c.last_of.ensures s)) ∙ sym c.is_others.ensures ∙ c.if-is_others.false))
+    (from_here (and_then (λ m. behind_element_colon m n constants) c.in_ok-colon.ensures
+    (and_then (λ m. element_made constants c.in_ok-colon.colon) c.in_ok-statement.ensures
+    (read (sym (ap (λ arm. record { constants = arm.constants; colon = arm.colon; statement = arm.statement })
+    (element_seen s (record {
+      constants = c.args.constants;
+      colon = c.in_ok-colon.colon;
+      statement = c.in_ok-statement.statement;
+    }))))))))
