@@ -173,7 +173,7 @@ at_colon k.Colon constants name is = refl
 at_colon kind constants name is = absurd cc
 
 -- what ends the elements is there
-abbrev IsReal : Arm → Type 0
+abbrev pub IsReal : Arm → Type 0
 IsReal (one_more found) = ⊤
 IsReal (tail tree.no_others) = ⊥
 IsReal (tail there) = ⊤
@@ -228,19 +228,16 @@ module _ (s : ℕ → Prog Statement) (m n line : ℕ) (b : Arm) (us : List Toke
       (λ constants vs f. constants_real constants (head vs).kind (head vs).payload (head vs).line vs f) e
 
 module _ (s : ℕ → Prog Statement) (m n : ℕ) where
-  real_ends : (elements : Elements) (last : Others) (kind : Kind) (payload : Payload) (line : ℕ) → IsReal (tail last)
+  -- behind what ends the elements nothing more is read
+  pub real_ends : (elements : Elements) (last : Others) (kind : Kind) (payload : Payload) (line : ℕ) → IsReal (tail last)
       → behind_arm_by s m n elements last kind payload line ≡ ends
   real_ends elements tree.no_others kind payload line h = absurd h
   real_ends elements (tree.semicolon at) kind payload line h = refl
   real_ends elements (tree.others a b c x d) kind payload line h = refl
 
-  -- behind what ends the elements nothing more is read
-  pub tail_ends : (line : ℕ) (elements : Elements) (last : Others) (ts us : List Token) (kind : Kind) (payload : Payload)
-      (at : ℕ) → run (look (next_arm_at s m n line)) ts ≡ Ok (tail last, us)
-      → behind_arm_by s m n elements last kind payload at ≡ ends
-  tail_ends line elements last ts us kind payload at e =
-      real_ends elements last kind payload at
-      (arm_real s m n line (tail last) us (head ts).kind (head ts).payload (head ts).line ts e)
+  pub arm_there : (line : ℕ) (b : Arm) (ts us : List Token) → run (look (next_arm_at s m n line)) ts ≡ Ok (b, us)
+      → IsReal b
+  arm_there line b ts us e = arm_real s m n line b us (head ts).kind (head ts).payload (head ts).line ts e
 
 -- one after the other
 behind_both : {A B C : Type 0} (r : Out A) (q : A → Prog B) (g : B → Prog C)

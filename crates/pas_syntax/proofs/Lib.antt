@@ -37,3 +37,4 @@ pub mod StatementSeen
 pub mod StatementSteps
 pub mod TypeSteps
 pub mod RowSteps
+pub mod CaseSteps

@@ -12,16 +12,21 @@ use Rattle.pas_syntax.specs.declared.tree.Plain.TheVariants as code_plain
 use Rattle.pas_syntax.specs.Nearest.{last_item}
 use Rattle.pas_syntax.specs.Views.{in_turn, expr_in, constant_in, separated_in}
 use Rattle.pas_syntax.specs.ProgramViews.{plain_in, statement_in, statements_in, more_statement_in, elements_in}
-use Rattle.pas_syntax.specs.ProgramViews.{others_in, compound_in, element_in}
+use Rattle.pas_syntax.specs.ProgramViews.{others_in, compound_in, more_element_in}
 use Rattle.pas_syntax.specs.inner.StatementViews.{an_element_in, arm_in, arms_in}
 use Rattle.pas_syntax.specs.inner.Prog.{Prog, done, turns, look, skip, bind, head, run, ends, turn_of, a_turn}
 use Rattle.pas_syntax.specs.inner.Places.{Fits}
 use Rattle.pas_syntax.specs.inner.Readers.{expr}
-use Rattle.pas_syntax.specs.inner.Marks.{mark}
+use Rattle.pas_syntax.specs.inner.Marks.{mark, maybe_mark}
 use Rattle.pas_syntax.specs.inner.StatementReaders.{Guard, ForHead, Element, Arms, numeral, guard_by, for_head_by, else_at, plain_at}
 use Rattle.pas_syntax.specs.inner.StatementReaders.{labelled_by, behind_statement, behind_statement_name, compound_by}
 use Rattle.pas_syntax.specs.inner.StatementReaders.{statement, statements, plain, arms, statement_at, with_line}
-use Rattle.pas_syntax.specs.inner.StatementReaders.{is_others, unless_others}
+use Rattle.pas_syntax.specs.inner.StatementReaders.{is_others, unless_others, Arm, one_more, tail, with_arm}
+use Rattle.pas_syntax.specs.inner.StatementReaders.{behind_constants, behind_arm_by, behind_arm, first_arm, next_arm}
+use Rattle.pas_syntax.specs.inner.StatementReaders.{element}
+use Rattle.pas_syntax.specs.inner.StatementViews.{others_before_colon}
+use Rattle.pas_syntax.specs.inner.TypeReaders.{items_by, constant}
+use Rattle.pas_syntax.specs.inner.Places.{Parses}
 use Rattle.pas_syntax.proofs.PlaceLemmas.{returned, stops, goes_on, goes_as, skips, line_of_head, kept_no_memory}
 use Rattle.pas_syntax.proofs.PlaceLemmas.{with_more, is_left_out, is_misplaced, answers, any_turns, told, no_memory}
 use Rattle.pas_syntax.proofs.PlaceSteps.{from_here, and_then, behind_line, stopped, passed, formed, too_deep, read, makes}
@@ -29,8 +34,12 @@ use Rattle.pas_syntax.proofs.PlaceSteps.{looks_at, then_in, comes, goes_from, mo
 use Rattle.pas_syntax.proofs.SoFar.{SoFar, begun_behind, turned, turn_stops, loop_ends}
 use Rattle.pas_syntax.proofs.StatementSeen.{unlabelled_seen, empty_seen, goto_seen, compound_seen, plain_compound_seen}
 use Rattle.pas_syntax.proofs.StatementSeen.{statements_seen, more_statement_seen, element_seen}
+use Rattle.pas_syntax.proofs.StatementSeen.{elements_seen, more_element_seen, nothing_seen, semicolon_seen}
 use Rattle.pas_syntax.proofs.StatementSteps.{number_comes, no_number_comes, name_comes, nothing_comes, statement_takes}
 use Rattle.pas_syntax.proofs.StatementSteps.{no_else_comes}
+use Rattle.pas_syntax.proofs.CaseSteps.{semicolon_there, none_there, none_ends, end_comes, no_end_comes, others_come}
+use Rattle.pas_syntax.proofs.CaseSteps.{element_comes, IsReal, real_ends, arm_there, bind_bind, so_far_as}
+use Rattle.pas_syntax.proofs.CaseSteps.{fits_passed, element_read}
 use Rattle.pas_syntax.proofs.ExprViews.{pushed_in_turn}
 use Rattle.pas_syntax.proofs.+statement.Goals as goal
 
@@ -638,3 +647,243 @@ element-returns t c =
       colon = c.in_ok-colon.colon;
       statement = c.in_ok-statement.statement;
     }))))))))
+
+-- what stands behind a semicolon
+abbrev next_made : Element → Prog Arm
+next_made element = done (one_more element)
+
+abbrev behind_name : ℕ → ℕ → ℕ → Separated Constant → Prog Arm
+behind_name m n line constants = look (behind_constants (statement m) m n line constants)
+
+abbrev tail_made : ℕ → ℕ → ℕ → Statement → Option ℕ → Prog Arm
+tail_made line name colon s last = done (tail (tree.others line name colon s last))
+
+abbrev behind_others : ℕ → ℕ → ℕ → Statement → Prog Arm
+behind_others line name colon s = bind (maybe_mark k.Semicolon) (tail_made line name colon s)
+
+abbrev behind_colon_of : ℕ → ℕ → ℕ → ℕ → ℕ → Prog Arm
+behind_colon_of m n line name colon = bind (statement m n) (behind_others line name colon)
+
+pub next_arm-returns-in-End : goal.next_arm-returns-in-End
+next_arm-returns-in-End t c =
+    let line = c.args.semicolon in
+    goes_as (λ m. end_comes (statement m) m c.args.depth.forms line c.args.reader.now.tokens c.in-End.ensures.kind)
+    (answers (ap (λ x. tail x) (sym (semicolon_seen _ line))))
+
+pub next_arm-returns-in_err-constants-in_default : goal.next_arm-returns-in_err-constants-in_default
+next_arm-returns-in_err-constants-in_default t c =
+    let n = c.args.depth.forms in
+    let line = c.args.semicolon in
+    returned (err_from_is_err_and _ c.from_residual.ensures.1)
+    (goes_as (λ m. no_end_comes (statement m) m n line c.args.reader.now.tokens
+    (λ e. c.in_default.not-End (c.kind.ensures.kind ∙ sym e)))
+    (stops (λ m. behind_name m n line) c.in_err-constants-in_default.ensures))
+
+pub next_arm-returns-in_err-chosen-in-Some : goal.next_arm-returns-in_err-chosen-in-Some
+next_arm-returns-in_err-chosen-in-Some t c =
+    let n = c.args.depth.forms in
+    let line = c.args.semicolon in
+    let name = c.in-Some.line in
+    let got = c.in_ok-constants-in_default.ensures in
+    let there = subst (λ s. Some name ≡ others_before_colon (head c.constants.new.reader.tokens).kind
+        (separated_in (constant_in s) c.in_ok-constants-in_default.constants)) got.spellings c.in-Some.ensures in
+    goes_as (λ m. no_end_comes (statement m) m n line c.args.reader.now.tokens
+    (λ e. c.in_default.not-End (c.kind.ensures.kind ∙ sym e)))
+    (goes_on (λ m. behind_name m n line) got (with_more (omega (arith, got.shorter))
+    (goes_as (λ m. others_come (statement m) m n line _ c.constants.new.reader.tokens name there
+    (fits_passed c.pass-colon.ensures))
+    (with_more (omega arith) (from_here (passed (λ m. behind_colon_of m n line name) c.pass-colon.ensures
+    (stopped (λ m. behind_others line name c.pass-colon.result) c.from_residual-in_err-chosen-in-Some.result
+    c.in_err-chosen-in-Some.ensures c.from_residual-in_err-chosen-in-Some.ensures.1)))))))
+
+pub next_arm-returns-in-Some : goal.next_arm-returns-in-Some
+next_arm-returns-in-Some t c =
+    let n = c.args.depth.forms in
+    let line = c.args.semicolon in
+    let name = c.in-Some.line in
+    let got = c.in_ok-constants-in_default.ensures in
+    let there = subst (λ s. Some name ≡ others_before_colon (head c.constants.new.reader.tokens).kind
+        (separated_in (constant_in s) c.in_ok-constants-in_default.constants)) got.spellings c.in-Some.ensures in
+    goes_as (λ m. no_end_comes (statement m) m n line c.args.reader.now.tokens
+    (λ e. c.in_default.not-End (c.kind.ensures.kind ∙ sym e)))
+    (goes_on (λ m. behind_name m n line) got (with_more (omega (arith, got.shorter))
+    (goes_as (λ m. others_come (statement m) m n line _ c.constants.new.reader.tokens name there
+    (fits_passed c.pass-colon.ensures))
+    (with_more (omega arith) (from_here (passed (λ m. behind_colon_of m n line name) c.pass-colon.ensures
+    (and_then (λ m. behind_others line name c.pass-colon.result) c.in_ok-chosen-in-Some.ensures
+    (and_then (λ m. tail_made line name c.pass-colon.result _) c.maybe-end.ensures
+    (makes arm_in _ c.others.result c.others.ensures refl)))))))))
+
+pub next_arm-returns-in_err-element-in-None : goal.next_arm-returns-in_err-element-in-None
+next_arm-returns-in_err-element-in-None t c =
+    let n = c.args.depth.forms in
+    let line = c.args.semicolon in
+    let found = c.in_ok-constants-in_default.constants in
+    let got = c.in_ok-constants-in_default.ensures in
+    let there = subst (λ s. None ≡ others_before_colon (head c.constants.new.reader.tokens).kind
+        (separated_in (constant_in s) found)) got.spellings c.in-None.ensures in
+    returned (err_from_is_err_and _ c.from_residual-in_err-element-in-None.ensures.1)
+    (goes_as (λ m. no_end_comes (statement m) m n line c.args.reader.now.tokens
+    (λ e. c.in_default.not-End (c.kind.ensures.kind ∙ sym e)))
+    (goes_on (λ m. behind_name m n line) got (with_more (omega (arith, got.shorter))
+    (goes_as (λ m. element_comes (statement m) m n line _ c.constants.new.reader.tokens there)
+    (stops (λ m. next_made) (element_read found got.spellings c.in_err-element-in-None.ensures))))))
+
+pub next_arm-returns-in_ok-element-in-None : goal.next_arm-returns-in_ok-element-in-None
+next_arm-returns-in_ok-element-in-None t c =
+    let n = c.args.depth.forms in
+    let line = c.args.semicolon in
+    let found = c.in_ok-constants-in_default.constants in
+    let got = c.in_ok-constants-in_default.ensures in
+    let read_so = c.in_ok-element-in-None.ensures in
+    let there = subst (λ s. None ≡ others_before_colon (head c.constants.new.reader.tokens).kind
+        (separated_in (constant_in s) found)) got.spellings c.in-None.ensures in
+    goes_as (λ m. no_end_comes (statement m) m n line c.args.reader.now.tokens
+    (λ e. c.in_default.not-End (c.kind.ensures.kind ∙ sym e)))
+    (goes_on (λ m. behind_name m n line) got (with_more (omega (arith, got.shorter))
+    (goes_as (λ m. element_comes (statement m) m n line _ c.constants.new.reader.tokens there)
+    (goes_on (λ m. next_made) (element_read found got.spellings read_so)
+    (answers (ap (λ s. one_more (an_element_in s c.in_ok-element-in-None.field-0)) (sym read_so.spellings)))))))
+
+-- the elements, one after the other
+abbrev arms_from : ℕ → ℕ → Element → Prog Arms
+arms_from m n first = turns (behind_arm (statement m) m n) m (first_arm (statement m) m first)
+
+abbrev behind_first : ℕ → ℕ → Separated Constant → Prog Arms
+behind_first m n constants = bind (element m n constants) (arms_from m n)
+
+abbrev alone : Element → Arms
+alone found = record {
+  elements = tree.first_element found.constants found.colon found.statement;
+  others = tree.no_others;
+}
+
+arm_goes : (m n : ℕ) (elements : Elements) (ts : List Token) (line : ℕ) → k.Semicolon ≡ (head ts).kind
+    → Fits (head ts).kind (head ts).payload → line ≡ (head ts).line
+    → run (a_turn (behind_arm (statement m) m n) (record { elements = elements; others = tree.no_others })) ts
+    ≡ run (skip (bind (next_arm m n line) (λ arm. done (with_arm elements line arm)))) ts
+arm_goes m n elements ts line is fits same =
+    told (λ kind payload line. turn_of (behind_arm_by (statement m) m n elements tree.no_others kind payload line))
+    k.Semicolon ts line tt is fits same
+
+pub case_arms-returns-in_err-constants : goal.case_arms-returns-in_err-constants
+case_arms-returns-in_err-constants t c =
+    returned (err_from_is_err_and _ c.from_residual.ensures.1)
+    (stops (λ m. behind_first m c.args.depth.forms) c.in_err-constants.ensures)
+
+pub case_arms-returns-in_err-first : goal.case_arms-returns-in_err-first
+case_arms-returns-in_err-first t c =
+    let n = c.args.depth.forms in
+    let got = c.in_ok-constants.ensures in
+    returned (err_from_is_err_and _ c.from_residual-in_err-first.ensures.1)
+    (goes_on (λ m. behind_first m n) got (with_more (omega (arith, got.shorter))
+    (stops (λ m. arms_from m n) (element_read c.in_ok-constants.constants got.spellings c.in_err-first.ensures))))
+
+pub case_arms-more-init : goal.case_arms-more-init
+case_arms-more-init t c =
+    let n = c.args.depth.forms in
+    let s = c.args.reader.now.spellings in
+    let got = c.in_ok-constants.ensures in
+    let start = (alone (an_element_in s c.in_ok-first.first)).elements in
+    subst (λ xs. SoFar (λ m. arms m n) (λ m. behind_arm (statement m) m n) c.args.reader.now c.element.new.reader
+    (record { elements = in_turn start (map (more_element_in s) xs); others = tree.no_others }))
+    (sym c.new-more.ensures)
+    (so_far_as (λ m. bind_bind (items_by constant m) (λ constants. element m n constants) (arms_from m n)
+    c.args.reader.now.tokens)
+    (begun_behind alone (goes_on (λ m constants. element m n constants) got (with_more (omega (arith, got.shorter))
+    (element_read c.in_ok-constants.constants got.spellings c.in_ok-first.ensures)))))
+
+pub case_arms-returns-in_err-next_arm-in-Some : goal.case_arms-returns-in_err-next_arm-in-Some
+case_arms-returns-in_err-next_arm-in-Some t c =
+    let n = c.args.depth.forms in
+    let s = c.args.reader.now.spellings in
+    let line = c.in-Some.line in
+    let at = semicolon_there c.in-Some.ensures in
+    let elements = in_turn (alone (an_element_in s c.in_ok-first.first)).elements (map (more_element_in s) c.more.more) in
+    returned (err_from_is_err_and _ c.from_residual-in_err-next_arm-in-Some.ensures.1)
+    (turn_stops {view = λ s x. with_arm elements line (arm_in s x)} c.more.invariant
+    (goes_as (λ m. arm_goes m n elements c.more.reader.tokens line at.kind at.fits (line_of_head at.passes))
+    (skips at.passes (omega arith)
+    (stops (λ m arm. done (with_arm elements line arm)) c.in_err-next_arm-in-Some.ensures))))
+
+pub case_arms-returns-in-None : goal.case_arms-returns-in-None
+case_arms-returns-in-None t c =
+    let n = c.args.depth.forms in
+    let s = c.args.reader.now.spellings in
+    let place = none_there c.in-None.ensures in
+    subst (λ now. Parses (λ m. arms m n) arms_in c.args.reader.now _ now) place
+    (loop_ends c.more.invariant (λ m. none_ends (statement m) m n _ c.in-None.ensures)
+    (λ i. record {
+      elements = sym (elements_seen s (record { first = c.in_ok-first.first; more = c.more.more })) i;
+      others = sym (nothing_seen s) i;
+    }))
+
+pub case_arms-returns-in_err-push-in-Element : goal.case_arms-returns-in_err-push-in-Element
+case_arms-returns-in_err-push-in-Element t c =
+    let n = c.args.depth.forms in
+    let s = c.args.reader.now.spellings in
+    let line = c.in-Some.line in
+    let at = semicolon_there c.in-Some.ensures in
+    let elements = in_turn (alone (an_element_in s c.in_ok-first.first)).elements (map (more_element_in s) c.more.more) in
+    returned (err_from_is_err_and _ c.from_residual-in_err-push-in-Element.ensures.1)
+    (turn_stops {view = λ s x. with_arm elements line (arm_in s x)} c.more.invariant
+    (goes_as (λ m. arm_goes m n elements c.more.reader.tokens line at.kind at.fits (line_of_head at.passes))
+    (skips at.passes (omega arith)
+    (goes_on (λ m arm. done (with_arm elements line arm)) c.in-Element.ensures no_memory))))
+
+pub case_arms-more-smaller : goal.case_arms-more-smaller
+case_arms-more-smaller t c =
+    let at = semicolon_there c.in-Some.ensures in
+    let count : length c.more.reader.tokens ≡ suc (length c.maybe.new.self.tokens) = ap length at.passes.tokens in
+    omega (arith, count, c.in-Element.ensures.shorter)
+
+pub case_arms-more-preserved : goal.case_arms-more-preserved
+case_arms-more-preserved t c =
+    let n = c.args.depth.forms in
+    let s = c.args.reader.now.spellings in
+    let line = c.in-Some.line in
+    let at = semicolon_there c.in-Some.ensures in
+    let start = (alone (an_element_in s c.in_ok-first.first)).elements in
+    let elements = in_turn start (map (more_element_in s) c.more.more) in
+    let found = c.in-Element.element in
+    let got = c.in-Element.ensures in
+    let one : in_turn start (map (more_element_in s) c.push.new.self)
+        ≡ (with_arm elements line (one_more (an_element_in s found))).elements =
+    pushed_in_turn start (more_element_in s) c.more.more _ _ c.in_ok-push-in-Element.ensures.ok
+    ∙ ap (λ f. f elements) (more_element_seen s (record { line = line; element = found })) in
+    let count : length c.more.reader.tokens ≡ suc (length c.maybe.new.self.tokens) = ap length at.passes.tokens in
+    subst (λ elements. SoFar (λ m. arms m n) (λ m. behind_arm (statement m) m n) c.args.reader.now c.next_arm.new.reader
+    (record { elements = elements; others = tree.no_others })) (sym one)
+    (turned {view = λ s x. with_arm elements line (one_more (an_element_in s x))} {x = found} c.more.invariant
+    (goes_as (λ m. arm_goes m n elements c.more.reader.tokens line at.kind at.fits (line_of_head at.passes))
+    (skips at.passes (omega arith)
+    (goes_on (λ m arm. done (with_arm elements line arm)) got
+    (answers (ap (λ s. with_arm elements line (one_more (an_element_in s found))) (sym got.spellings))))))
+    (omega (arith, count, got.shorter)))
+
+pub case_arms-returns-in-Others : goal.case_arms-returns-in-Others
+case_arms-returns-in-Others t c =
+    let n = c.args.depth.forms in
+    let s = c.args.reader.now.spellings in
+    let line = c.in-Some.line in
+    let at = semicolon_there c.in-Some.ensures in
+    let start = (alone (an_element_in s c.in_ok-first.first)).elements in
+    let elements = in_turn start (map (more_element_in s) c.more.more) in
+    let found = c.in-Others.others in
+    let got = c.in-Others.ensures in
+    let ts = c.maybe.new.self.tokens in
+    let real = subst (λ s. IsReal (tail (others_in s found))) (at.passes.spellings ∙ c.more.invariant.spellings)
+        (arm_there (statement (suc (length ts))) (suc (length ts)) n line _ ts _
+        (got.gives (suc (length ts)) (omega arith))) in
+    loop_ends
+    (turned {view = λ s x. with_arm elements line (tail (others_in s x))} {x = found} c.more.invariant
+    (goes_as (λ m. arm_goes m n elements c.more.reader.tokens line at.kind at.fits (line_of_head at.passes))
+    (skips at.passes (omega arith)
+    (goes_on (λ m arm. done (with_arm elements line arm)) got
+    (answers (ap (λ s. with_arm elements line (tail (others_in s found))) (sym got.spellings))))))
+    (omega (arith, ap length at.passes.tokens, got.shorter)))
+    (λ m. real_ends (statement m) m n _ (others_in s found) _ _ _ real)
+    (λ i. record {
+      elements = sym (elements_seen s (record { first = c.in_ok-first.first; more = c.more.more })) i;
+      others = others_in s found;
+    })
