@@ -1,6 +1,7 @@
 -- How the readers of the elements of a `case` go at the token that comes next.
 use denote.Enum.Bare.{same_true, true_same}
-use Rattle.std.proofs.Common.{Bool, true, false, ◌≡◌, refl, sym, ap, subst, ◌∙◌, ℕ, suc, ◌+◌, ◌≤◌, arith, List, [], ◌∷◌}
+use Rattle.std.proofs.Common.{Bool, true, false, ◌≡◌, refl, sym, ap, subst, ◌∙◌, ℕ, suc, ◌+◌, ◌≤◌, arith, List, []}
+use Rattle.std.proofs.Common.{◌∷◌}
 use Rattle.std.proofs.Common.{length, Result, Ok, Err, Option, Some, None}
 use Rattle.std.specs.Prelude.{⊤}
 use Rattle.pas_tokens.specs.contracts.kinds.Kind.{the_type}
@@ -18,7 +19,8 @@ use Rattle.pas_syntax.specs.inner.Prog.{Prog, done, look, skip, bind, Out, run, 
 use Rattle.pas_syntax.specs.inner.Places.{Place, Fits, Passes, Parses, same}
 use Rattle.pas_syntax.specs.inner.Marks.{same_kind, maybe_if, maybe_mark}
 use Rattle.pas_syntax.specs.inner.TypeReaders.{items_by, constant}
-use Rattle.pas_syntax.specs.inner.StatementReaders.{Arm, one_more, tail, others_line, element_by, others_by, colon_behind}
+use Rattle.pas_syntax.specs.inner.StatementReaders.{Arm, one_more, tail, others_line, element_by, others_by}
+use Rattle.pas_syntax.specs.inner.StatementReaders.{colon_behind}
 use Rattle.pas_syntax.specs.inner.StatementReaders.{behind_constants, next_arm_at, behind_arm_by, with_line, element}
 use Rattle.pas_syntax.specs.inner.StatementViews.{others_before_colon, an_element_in}
 use Rattle.pas_syntax.specs.Views.{constant_in, separated_in}
@@ -59,7 +61,8 @@ taken_at (t ∷ ts) us line e =
     let kind : t.kind ≡ k.Semicolon = sym (same_true the_type tt k.Semicolon t.kind p.0) in
     λ i. record { kind = kind i; payload = p.1 i; line = p.2 i } ∷ p.3 i
 
-pub semicolon_there : {old new : Place} {line : ℕ} → Parses (λ most. maybe_mark k.Semicolon) same old (Ok (Some line)) new
+pub semicolon_there : {old new : Place} {line : ℕ} → Parses (λ most. maybe_mark k.Semicolon) same old (Ok (Some
+    line)) new
     → AtSemicolon old line new
 semicolon_there {old = old} {new = new} {line = line} h =
     let split = taken_at old.tokens new.tokens line (h.gives (suc (length old.tokens)) (omega arith)) in
@@ -92,7 +95,8 @@ none_taken false payload line ts us e = ap rest_of e
 pub none_there : {old new : Place} → Parses (λ most. maybe_mark k.Semicolon) same old (Ok None) new → old ≡ new
 none_there {old = old} {new = new} h =
     let t = head old.tokens in
-    let tokens : old.tokens ≡ new.tokens = none_taken (same_kind k.Semicolon t.kind) t.payload t.line old.tokens new.tokens
+    let tokens : old.tokens ≡ new.tokens = none_taken (same_kind k.Semicolon t.kind) t.payload t.line old.tokens
+        new.tokens
     (h.gives (suc (length old.tokens)) (omega arith)) in
     let taken : old.taken ≡ new.taken = omega (arith, ap length tokens, h.taken) in
     λ i. record { spellings = sym h.spellings i; taken = taken i; tokens = tokens i }
@@ -110,7 +114,8 @@ module _ (s : ℕ → Prog Statement) (m n : ℕ) where
 
   pub none_ends : {old new : Place} (elements : Elements)
       → Parses (λ most. maybe_mark k.Semicolon) same old (Ok None) new
-      → behind_arm_by s m n elements tree.no_others (head old.tokens).kind (head old.tokens).payload (head old.tokens).line
+      → behind_arm_by s m n elements tree.no_others (head old.tokens).kind (head old.tokens).payload (head
+      old.tokens).line
       ≡ ends
   none_ends {old = old} {new = new} elements h =
       let t = head old.tokens in
@@ -167,7 +172,8 @@ module _ (s : ℕ → Prog Statement) (m n : ℕ) where
         ap (λ q. run q ts) (element_at constants (head ts).kind (head ts).payload (head ts).line is)
 
 -- where a colon comes next
-pub at_colon : (kind : Kind) (constants : Separated Constant) (name : ℕ) → Some name ≡ others_before_colon kind constants
+pub at_colon : (kind : Kind) (constants : Separated Constant) (name : ℕ)
+    → Some name ≡ others_before_colon kind constants
     → k.Colon ≡ kind
 at_colon k.Colon constants name is = refl
 at_colon kind constants name is = absurd cc
@@ -198,8 +204,10 @@ module _ (s : ℕ → Prog Statement) (m n line : ℕ) (b : Arm) (us : List Toke
   others_real : (name colon : ℕ) (ts : List Token) → run (others_by s m n line name colon) ts ≡ Ok (b, us) → IsReal b
   others_real name colon [] e = absurd cc
   others_real name colon (t ∷ ts) e =
-      real_behind (s n) (λ x. bind (maybe_mark k.Semicolon) (λ last. done (tail (tree.others line name colon x last)))) b ts
-      us (λ x vs f. real_behind (maybe_mark k.Semicolon) (λ last. done (tail (tree.others line name colon x last))) b vs us
+      real_behind (s n) (λ x. bind (maybe_mark k.Semicolon) (λ last. done (tail (tree.others line name colon x
+      last)))) b ts
+      us (λ x vs f. real_behind (maybe_mark k.Semicolon) (λ last. done (tail (tree.others line name colon x last))) b
+      vs us
       (λ last ws g. done_real (tail (tree.others line name colon x last)) b ws us tt g) f) e
 
   element_real : (constants : Separated Constant) (ts : List Token)
@@ -229,7 +237,8 @@ module _ (s : ℕ → Prog Statement) (m n line : ℕ) (b : Arm) (us : List Toke
 
 module _ (s : ℕ → Prog Statement) (m n : ℕ) where
   -- behind what ends the elements nothing more is read
-  pub real_ends : (elements : Elements) (last : Others) (kind : Kind) (payload : Payload) (line : ℕ) → IsReal (tail last)
+  pub real_ends : (elements : Elements) (last : Others) (kind : Kind) (payload : Payload) (line : ℕ)
+      → IsReal (tail last)
       → behind_arm_by s m n elements last kind payload line ≡ ends
   real_ends elements tree.no_others kind payload line h = absurd h
   real_ends elements (tree.semicolon at) kind payload line h = refl

@@ -1,4 +1,5 @@
-use Rattle.std.proofs.Common.{◌≡◌, ◌∙◌, refl, sym, ap, subst, arith, ℕ, suc, Option, Ok, Err, ◌+◌, ◌-◌, ◌≤◌, ◌<◌, List, [], ◌∷◌}
+use Rattle.std.proofs.Common.{◌≡◌, ◌∙◌, refl, sym, ap, subst, arith, ℕ, suc, Option, Ok, Err, ◌+◌, ◌-◌, ◌≤◌, ◌<◌}
+use Rattle.std.proofs.Common.{List, [], ◌∷◌}
 use Rattle.std.proofs.Common.{length, map, Some, None}
 use Rattle.std.proofs.lemmas.Result.{err_from_is_err_and}
 use Rattle.pas_tokens.specs.declared.kinds.Kind.{Kind}
@@ -7,7 +8,8 @@ use Rattle.pas_tokens.specs.Cutting.{Payload}
 use Rattle.pas_tokens.specs.Tokens.{Token}
 use Rattle.pas_syntax.specs.declared.limits.TheConstants.{NESTING_LIMIT}
 use Rattle.pas_syntax.specs.Tree as tree
-use Rattle.pas_syntax.specs.Tree.{Separated, Constant, Numeral, Expr, Plain, Statement, Statements, Compound, Elements}
+use Rattle.pas_syntax.specs.Tree.{Separated, Constant, Numeral, Expr, Plain, Statement, Statements, Compound}
+use Rattle.pas_syntax.specs.Tree.{Elements}
 use Rattle.pas_syntax.specs.declared.tree.Plain.TheVariants as code_plain
 use Rattle.pas_syntax.specs.Nearest.{last_item}
 use Rattle.pas_syntax.specs.Views.{in_turn, expr_in, constant_in, separated_in}
@@ -18,7 +20,8 @@ use Rattle.pas_syntax.specs.inner.Prog.{Prog, done, turns, look, skip, bind, hea
 use Rattle.pas_syntax.specs.inner.Places.{Fits}
 use Rattle.pas_syntax.specs.inner.Readers.{expr}
 use Rattle.pas_syntax.specs.inner.Marks.{mark, maybe_mark}
-use Rattle.pas_syntax.specs.inner.StatementReaders.{Guard, ForHead, Element, Arms, numeral, guard_by, for_head_by, else_at, plain_at}
+use Rattle.pas_syntax.specs.inner.StatementReaders.{Guard, ForHead, Element, Arms, numeral, guard_by, for_head_by}
+use Rattle.pas_syntax.specs.inner.StatementReaders.{else_at, plain_at}
 use Rattle.pas_syntax.specs.inner.StatementReaders.{labelled_by, behind_statement, behind_statement_name, compound_by}
 use Rattle.pas_syntax.specs.inner.StatementReaders.{statement, statements, plain, arms, statement_at, with_line}
 use Rattle.pas_syntax.specs.inner.StatementReaders.{is_others, unless_others, Arm, one_more, tail, with_arm}
@@ -29,13 +32,16 @@ use Rattle.pas_syntax.specs.inner.TypeReaders.{items_by, constant}
 use Rattle.pas_syntax.specs.inner.Places.{Parses}
 use Rattle.pas_syntax.proofs.PlaceLemmas.{returned, stops, goes_on, goes_as, skips, line_of_head, kept_no_memory}
 use Rattle.pas_syntax.proofs.PlaceLemmas.{with_more, is_left_out, is_misplaced, answers, any_turns, told, no_memory}
-use Rattle.pas_syntax.proofs.PlaceSteps.{from_here, and_then, behind_line, stopped, passed, formed, too_deep, read, makes}
+use Rattle.pas_syntax.proofs.PlaceSteps.{from_here, and_then, behind_line, stopped, passed, formed, too_deep, read}
+use Rattle.pas_syntax.proofs.PlaceSteps.{makes}
 use Rattle.pas_syntax.proofs.PlaceSteps.{looks_at, then_in, comes, goes_from, more_from}
 use Rattle.pas_syntax.proofs.SoFar.{SoFar, begun_behind, turned, turn_stops, loop_ends}
-use Rattle.pas_syntax.proofs.StatementSeen.{unlabelled_seen, empty_seen, goto_seen, compound_seen, plain_compound_seen}
+use Rattle.pas_syntax.proofs.StatementSeen.{unlabelled_seen, empty_seen, goto_seen, compound_seen}
+use Rattle.pas_syntax.proofs.StatementSeen.{plain_compound_seen}
 use Rattle.pas_syntax.proofs.StatementSeen.{statements_seen, more_statement_seen, element_seen}
 use Rattle.pas_syntax.proofs.StatementSeen.{elements_seen, more_element_seen, nothing_seen, semicolon_seen}
-use Rattle.pas_syntax.proofs.StatementSteps.{number_comes, no_number_comes, name_comes, nothing_comes, statement_takes}
+use Rattle.pas_syntax.proofs.StatementSteps.{number_comes, no_number_comes, name_comes, nothing_comes}
+use Rattle.pas_syntax.proofs.StatementSteps.{statement_takes}
 use Rattle.pas_syntax.proofs.StatementSteps.{no_else_comes}
 use Rattle.pas_syntax.proofs.CaseSteps.{semicolon_there, none_there, none_ends, end_comes, no_end_comes, others_come}
 use Rattle.pas_syntax.proofs.CaseSteps.{element_comes, IsReal, real_ends, arm_there, bind_bind, so_far_as}
@@ -390,7 +396,8 @@ statement-returns-in_ok-plain-in-Number t c =
 -- a statement without a label
 pub plain-returns-in-If : goal.plain-returns-in-If
 plain-returns-in-If t c =
-    looks_at (λ m. plain_at (statement m) m c.args.depth.forms) k.If tt (sym c.in-If.ensures.kind) c.in-If.ensures.fits
+    looks_at (λ m. plain_at (statement m) m c.args.depth.forms) k.If tt (sym c.in-If.ensures.kind)
+    c.in-If.ensures.fits
     c.conditional-in-If.ensures
 
 pub plain-returns-in-Case : goal.plain-returns-in-Case
@@ -439,7 +446,8 @@ semicolon_goes : (m n : ℕ) (list : Statements) (ts : List Token) (line : ℕ) 
     → run (a_turn (behind_statement (statement m) m n) list) ts
     ≡ run (skip (bind (statement m n) (λ s. done (tree.more_statements list line s)))) ts
 semicolon_goes m n list ts line is fits same =
-    told (λ kind payload line. turn_of (behind_statement (statement m) m n list kind payload line)) k.Semicolon ts line
+    told (λ kind payload line. turn_of (behind_statement (statement m) m n list kind payload line)) k.Semicolon ts
+    line
     tt is fits same
 
 statements_end : (m n : ℕ) (list : Statements) (kind : Kind) (payload : Payload) (line : ℕ) → (k.Semicolon ≡ kind → ⊥)
@@ -799,7 +807,8 @@ case_arms-returns-in_err-next_arm-in-Some t c =
     let s = c.args.reader.now.spellings in
     let line = c.in-Some.line in
     let at = semicolon_there c.in-Some.ensures in
-    let elements = in_turn (alone (an_element_in s c.in_ok-first.first)).elements (map (more_element_in s) c.more.more) in
+    let elements = in_turn (alone (an_element_in s c.in_ok-first.first)).elements (map (more_element_in s)
+        c.more.more) in
     returned (err_from_is_err_and _ c.from_residual-in_err-next_arm-in-Some.ensures.1)
     (turn_stops {view = λ s x. with_arm elements line (arm_in s x)} c.more.invariant
     (goes_as (λ m. arm_goes m n elements c.more.reader.tokens line at.kind at.fits (line_of_head at.passes))
@@ -824,7 +833,8 @@ case_arms-returns-in_err-push-in-Element t c =
     let s = c.args.reader.now.spellings in
     let line = c.in-Some.line in
     let at = semicolon_there c.in-Some.ensures in
-    let elements = in_turn (alone (an_element_in s c.in_ok-first.first)).elements (map (more_element_in s) c.more.more) in
+    let elements = in_turn (alone (an_element_in s c.in_ok-first.first)).elements (map (more_element_in s)
+        c.more.more) in
     returned (err_from_is_err_and _ c.from_residual-in_err-push-in-Element.ensures.1)
     (turn_stops {view = λ s x. with_arm elements line (arm_in s x)} c.more.invariant
     (goes_as (λ m. arm_goes m n elements c.more.reader.tokens line at.kind at.fits (line_of_head at.passes))
@@ -852,7 +862,8 @@ case_arms-more-preserved t c =
     pushed_in_turn start (more_element_in s) c.more.more _ _ c.in_ok-push-in-Element.ensures.ok
     ∙ ap (λ f. f elements) (more_element_seen s (record { line = line; element = found })) in
     let count : length c.more.reader.tokens ≡ suc (length c.maybe.new.self.tokens) = ap length at.passes.tokens in
-    subst (λ elements. SoFar (λ m. arms m n) (λ m. behind_arm (statement m) m n) c.args.reader.now c.next_arm.new.reader
+    subst (λ elements. SoFar (λ m. arms m n) (λ m. behind_arm (statement m) m n) c.args.reader.now
+    c.next_arm.new.reader
     (record { elements = elements; others = tree.no_others })) (sym one)
     (turned {view = λ s x. with_arm elements line (one_more (an_element_in s x))} {x = found} c.more.invariant
     (goes_as (λ m. arm_goes m n elements c.more.reader.tokens line at.kind at.fits (line_of_head at.passes))
