@@ -279,9 +279,9 @@ pub fits_passed : {old new : Place} {line : ℕ} → Passes old line new
 fits_passed h = subst (λ t. Fits t.kind t.payload) (ap head (sym h.tokens)) h.fits
 
 -- an element behind constants, where the text has these spellings
-pub element_read : {n : ℕ} {spellings : List ℕ} {old new : Place} {result : Result CodeElement Stop}
+pub element_read : (n : ℕ) {spellings : List ℕ} {old new : Place} {result : Result CodeElement Stop}
     (constants : CodeSeparated CodeConstant) → old.spellings ≡ spellings
     → Parses (λ m. element m n (separated_in (constant_in old.spellings) constants)) an_element_in old result new
     → Parses (λ m. element m n (separated_in (constant_in spellings) constants)) an_element_in old result new
-element_read {n = n} {old = old} {new = new} {result = result} constants is h =
+element_read n {old = old} {new = new} {result = result} constants is h =
     subst (λ s. Parses (λ m. element m n (separated_in (constant_in s) constants)) an_element_in old result new) is h

@@ -735,7 +735,7 @@ next_arm-returns-in_err-element-in-None t c =
     (λ e. c.in_default.not-End (c.kind.ensures.kind ∙ sym e)))
     (goes_on (λ m. behind_name m n line) got (with_more (omega (arith, got.shorter))
     (goes_as (λ m. element_comes (statement m) m n line _ c.constants.new.reader.tokens there)
-    (stops (λ m. next_made) (element_read found got.spellings c.in_err-element-in-None.ensures))))))
+    (stops (λ m. next_made) (element_read n found got.spellings c.in_err-element-in-None.ensures))))))
 
 pub next_arm-returns-in_ok-element-in-None : goal.next_arm-returns-in_ok-element-in-None
 next_arm-returns-in_ok-element-in-None t c =
@@ -750,7 +750,7 @@ next_arm-returns-in_ok-element-in-None t c =
     (λ e. c.in_default.not-End (c.kind.ensures.kind ∙ sym e)))
     (goes_on (λ m. behind_name m n line) got (with_more (omega (arith, got.shorter))
     (goes_as (λ m. element_comes (statement m) m n line _ c.constants.new.reader.tokens there)
-    (goes_on (λ m. next_made) (element_read found got.spellings read_so)
+    (goes_on (λ m. next_made) (element_read n found got.spellings read_so)
     (answers (ap (λ s. one_more (an_element_in s c.in_ok-element-in-None.field-0)) (sym read_so.spellings)))))))
 
 -- the elements, one after the other
@@ -785,7 +785,7 @@ case_arms-returns-in_err-first t c =
     let got = c.in_ok-constants.ensures in
     returned (err_from_is_err_and _ c.from_residual-in_err-first.ensures.1)
     (goes_on (λ m. behind_first m n) got (with_more (omega (arith, got.shorter))
-    (stops (λ m. arms_from m n) (element_read c.in_ok-constants.constants got.spellings c.in_err-first.ensures))))
+    (stops (λ m. arms_from m n) (element_read n c.in_ok-constants.constants got.spellings c.in_err-first.ensures))))
 
 pub case_arms-more-init : goal.case_arms-more-init
 case_arms-more-init t c =
@@ -799,7 +799,7 @@ case_arms-more-init t c =
     (so_far_as (λ m. bind_bind (items_by constant m) (λ constants. element m n constants) (arms_from m n)
     c.args.reader.now.tokens)
     (begun_behind alone (goes_on (λ m constants. element m n constants) got (with_more (omega (arith, got.shorter))
-    (element_read c.in_ok-constants.constants got.spellings c.in_ok-first.ensures)))))
+    (element_read n c.in_ok-constants.constants got.spellings c.in_ok-first.ensures)))))
 
 pub case_arms-returns-in_err-next_arm-in-Some : goal.case_arms-returns-in_err-next_arm-in-Some
 case_arms-returns-in_err-next_arm-in-Some t c =
