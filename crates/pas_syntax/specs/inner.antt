@@ -9,3 +9,4 @@ pub mod StatementReaders
 pub mod DeclarationReaders
 pub mod StatementViews
 pub mod TypeViews
+pub mod DeclarationViews
