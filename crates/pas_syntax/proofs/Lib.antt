@@ -37,3 +37,7 @@ pub mod StatementSeen
 pub mod StatementSteps
 pub mod TypeSteps
 pub mod RowSteps
+pub mod ParameterSteps
+pub mod ParseSteps
+pub mod RegionSteps
+pub mod RoutineSteps

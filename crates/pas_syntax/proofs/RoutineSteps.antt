@@ -2,6 +2,7 @@
 use Rattle.std.proofs.Common.{◌≡◌, refl, sym, ap, subst, ◌∙◌, ℕ, suc, ◌+◌, ◌≤◌, ◌<◌, arith, List, [], ◌∷◌, ◌++◌, map}
 use Rattle.std.proofs.Common.{Bool, true, false, length, Option, Some, None, Result, Ok, Err}
 use Rattle.std.specs.Str.{bytes_eq}
+use Rattle.std.proofs.lemmas.List.{map-append}
 use Rattle.wb_base.specs.declared.faults.TheConstants.{ENUMERATIONS, SETS, POINTERS, ROUTINES_AS_PARAMETERS}
 use Rattle.pas_tokens.specs.declared.kinds.Kind.{Kind}
 use Rattle.pas_tokens.specs.declared.kinds.Kind.TheVariants as k
@@ -9,22 +10,31 @@ use Rattle.pas_tokens.specs.Cutting.{Payload, nothing, value, spelling}
 use Rattle.pas_tokens.specs.Tokens.{Token}
 use Rattle.pas_syntax.specs.declared.stop.Stop.{Stop}
 use Rattle.pas_syntax.specs.declared.stop.Stop.TheVariants as stop
+use Rattle.pas_syntax.specs.declared.tree.Body.TheVariants as code_body
+use Rattle.pas_syntax.specs.declared.tree.Block.{Block}
+use Rattle.pas_syntax.specs.declared.tree.Routine.{Routine as CodeRoutine}
+use Rattle.pas_syntax.specs.declared.tree.Compound.{Compound as CodeCompound}
 use Rattle.pas_syntax.specs.Tree as tree
 use Rattle.pas_syntax.specs.Tree.{Parameter, Heading, Body, Compound, Routine, Program, TypeName, forward_name}
+use Rattle.pas_syntax.specs.ProgramViews.{body_in, compound_in, routine_in}
 use Rattle.pas_syntax.specs.inner.Prog.{Prog, done, fail, look, skip, bind, Out, run, head, and_then, misplaced, shown}
 use Rattle.pas_syntax.specs.inner.Prog.{more, ends, turn_of, a_turn}
-use Rattle.pas_syntax.specs.inner.Places.{Place, Fits, ParsesIn, Parses}
+use Rattle.pas_syntax.specs.inner.Places.{Place, Fits, Passes, ParsesIn, Parses, spelled_by, same}
 use Rattle.pas_syntax.specs.inner.Readers.{ident, ident_at}
 use Rattle.pas_syntax.specs.inner.Marks.{mark, mark_at}
 use Rattle.pas_syntax.specs.inner.TypeViews.{left_out_type}
-use Rattle.pas_syntax.specs.inner.StatementReaders.{compound, compound_at}
+use Rattle.pas_syntax.specs.inner.StatementReaders.{compound, compound_at, compound_by, statement, with_line}
 use Rattle.pas_syntax.specs.inner.DeclarationReaders.{type_name, type_name_at, parameter, parameter_at, parameter_by}
 use Rattle.pas_syntax.specs.inner.DeclarationReaders.{procedure_behind, function_behind, body, body_at, block_by, forward_if}
-use Rattle.pas_syntax.specs.inner.DeclarationReaders.{routine_by, behind_routine, program_head, declarations, Front}
+use Rattle.pas_syntax.specs.inner.DeclarationReaders.{routine_by, routines, behind_routine, program_head, declarations, Front}
 use Rattle.pas_syntax.specs.inner.DeclarationReaders.{front, program_of, end_at, program, Declarations, ProgramHead}
 use Rattle.pas_syntax.specs.inner.DeclarationViews.{heading, heading_at, forward_line, forward_line_if, forward_line_at}
-use Rattle.pas_syntax.specs.inner.DeclarationViews.{end_line}
+use Rattle.pas_syntax.specs.inner.DeclarationViews.{end_line, block_in}
 use Rattle.pas_syntax.proofs.ProgLemmas.{run_bind, run_assoc}
+use Rattle.pas_syntax.proofs.PlaceLemmas.{answers, stops, goes_as, goes_on, with_more, skips, line_of_head}
+use Rattle.pas_syntax.proofs.PlaceLemmas.{is_misplaced}
+use Rattle.pas_syntax.proofs.PlaceSteps.{looks_at, shorter_by}
+use Rattle.pas_syntax.proofs.SoFar.{SoFar, begun, turned, turn_stops, loop_ends}
 
 -- the same behind the same
 run_same : {A B : Type 0} (p : Prog A) (f g : A → Prog B) (ts : List Token)
@@ -86,6 +96,22 @@ pub parameter_goes : (m : ℕ) (ts : List Token) → (k.Procedure ≡ (head ts).
     → (k.Function ≡ (head ts).kind → ⊥) → run (parameter m) ts ≡ run (parameter_by m) ts
 parameter_goes m ts one other =
     ap (λ q. run q ts) (parameter_at_goes m (head ts).kind (head ts).payload (head ts).line one other)
+
+routine_parameter_at : (m : ℕ) (kind : Kind) (payload : Payload) (line : ℕ)
+    → ((k.Procedure ≡ kind) ⊎ (k.Function ≡ kind)) → Fits kind payload
+    → parameter_at m kind payload line ≡ fail (shown ROUTINES_AS_PARAMETERS)
+routine_parameter_at m k.Procedure nothing line is fits = refl
+routine_parameter_at m k.Procedure payload line is fits = absurd fits
+routine_parameter_at m k.Function nothing line is fits = refl
+routine_parameter_at m k.Function payload line is fits = absurd fits
+routine_parameter_at m kind payload line (inl is) fits = absurd cc
+routine_parameter_at m kind payload line (inr is) fits = absurd cc
+
+pub routine_parameter : (m : ℕ) (ts : List Token) → ((k.Procedure ≡ (head ts).kind) ⊎ (k.Function ≡ (head ts).kind))
+    → Fits (head ts).kind (head ts).payload
+    → run (parameter m) ts ≡ run {A = Parameter} (fail (shown ROUTINES_AS_PARAMETERS)) ts
+routine_parameter m ts is fits =
+    ap (λ q. run q ts) (routine_parameter_at m (head ts).kind (head ts).payload (head ts).line is fits)
 
 -- a heading that begins with no `procedure`
 pub function_goes : (m : ℕ) (ts : List Token) → (k.Procedure ≡ (head ts).kind → ⊥)
@@ -201,3 +227,111 @@ program_goes m ts =
     (λ f. look (end_at f)) (behind_compound head all) ts
     (λ body ts. then_same (mark k.Dot) (λ dot. done (front_of head all body dot)) (λ f. look (end_at f))
     (behind_dot head all body) ts (λ dot ts. end_goes (front_of head all body dot) ts))))
+
+-- what is made of what is read
+pub made_of : {A B X : Type 0} {view : List ℕ → X → A} {p : ℕ → Prog A} {least : ℕ} {old new : Place}
+    {result : Result X Stop} (make : A → B) → ParsesIn least p view old result new
+    → ParsesIn least (λ m. bind (p m) (λ a. done (make a))) (λ s x. make (view s x)) old result new
+made_of {view = view} {result = Ok found} make h =
+    goes_on (λ m a. done (make a)) h (answers (ap (λ s. make (view s found)) (sym h.spellings)))
+made_of {result = Err why} make h = stops (λ m a. done (make a)) h
+
+-- declarations and statements as a body
+pub block_seen : {least : ℕ} {p : ℕ → Prog Body} {old new : Place} {block : Block}
+    → ParsesIn least p block_in old (Ok block) new → ParsesIn least p body_in old (Ok (code_body.Block block)) new
+block_seen h = record { gives = h.gives; shorter = h.shorter; taken = h.taken; spellings = h.spellings }
+
+-- a compound statement that begins here
+pub compound_goes : {old new : Place} {result : Result CodeCompound Stop} → k.Begin ≡ (head old.tokens).kind
+    → Fits (head old.tokens).kind (head old.tokens).payload
+    → ParsesIn (length old.tokens) (λ m. with_line (compound_by (statement m) m 0)) compound_in old result new
+    → Parses (λ m. compound m 0) compound_in old result new
+unfolding compound
+compound_goes is fits h =
+    with_more (omega arith) (looks_at (λ m. compound_at m 0) k.Begin tt (sym is) fits h)
+
+-- routines so far
+abbrev pub routines_so_far : Place → Place → List CodeRoutine → Type 0
+routines_so_far old now all = SoFar routines (λ m. behind_routine m) old now (map (routine_in old.spellings) all)
+
+pub routines_begin : {old : Place} (all : List CodeRoutine) → all ≡ [] → routines_so_far old old all
+routines_begin {old = old} all none =
+    subst (λ all. SoFar routines (λ m. behind_routine m) old old (map (routine_in old.spellings) all)) (sym none) begun
+
+pub routine_stops : {old now new : Place} {why : Stop} (all : List CodeRoutine) → routines_so_far old now all
+    → ((k.Procedure ≡ (head now.tokens).kind) ⊎ (k.Function ≡ (head now.tokens).kind))
+    → Fits (head now.tokens).kind (head now.tokens).payload
+    → Parses (λ m. routine_by m (heading m)) routine_in now (Err why) new
+    → Parses routines (λ s. map (routine_in s)) old (Err why) new
+routine_stops {old = old} {now = now} all so is fits h =
+    let found = map (routine_in old.spellings) all in
+    turn_stops {view = λ s x. found ++ routine_in s x ∷ []} so
+    (goes_as (λ m. routine_goes m found now.tokens is fits) (stops (λ m next. done (found ++ next ∷ [])) h))
+
+headed_further : (m : ℕ) (t : Token) (ts : List Token) (r : Routine) (rest : List Token) (kind : Kind)
+    (payload : Payload) (line : ℕ) → run (routine_by m (heading_at m kind payload line)) (t ∷ ts) ≡ Ok (r, rest)
+    → length rest < length (t ∷ ts)
+headed_further m t ts r rest k.Procedure nothing line e =
+    omega (arith, shorter_by (routine_by m (procedure_behind m line)) ts r rest e)
+headed_further m t ts r rest k.Function nothing line e =
+    omega (arith, shorter_by (routine_by m (function_behind m line)) ts r rest e)
+headed_further m t ts r rest kind payload line e = absurd cc
+
+further_by : (m : ℕ) (ts : List Token) (r : Routine) (rest : List Token)
+    → run (routine_by m (heading m)) ts ≡ Ok (r, rest) → length rest < length ts
+further_by m [] r rest e = absurd cc
+further_by m (t ∷ ts) r rest e = headed_further m t ts r rest t.kind t.payload t.line e
+
+pub routine_further : {now new : Place} {x : CodeRoutine}
+    → Parses (λ m. routine_by m (heading m)) routine_in now (Ok x) new → length new.tokens < length now.tokens
+routine_further {now = now} {new = new} {x = x} h =
+    further_by (suc (length now.tokens)) now.tokens (routine_in now.spellings x) new.tokens
+    (h.gives (suc (length now.tokens)) (omega arith))
+
+pub one_routine_more : {old now new : Place} {x : CodeRoutine} (all more : List CodeRoutine)
+    → routines_so_far old now all
+    → ((k.Procedure ≡ (head now.tokens).kind) ⊎ (k.Function ≡ (head now.tokens).kind))
+    → Fits (head now.tokens).kind (head now.tokens).payload
+    → Parses (λ m. routine_by m (heading m)) routine_in now (Ok x) new → more ≡ all ++ x ∷ []
+    → routines_so_far old new more
+one_routine_more {old = old} {now = now} {new = new} {x = x} all more so is fits h push =
+    let s = old.spellings in
+    let found = map (routine_in s) all in
+    let mapped : map (routine_in s) more ≡ found ++ routine_in s x ∷ [] =
+    ap (map (routine_in s)) push ∙ map-append (routine_in s) all (x ∷ []) in
+    subst (λ xs. SoFar routines (λ m. behind_routine m) old new xs) (sym mapped)
+    (turned {view = λ s x. found ++ routine_in s x ∷ []} {x = x} so
+    (goes_as (λ m. routine_goes m found now.tokens is fits) (goes_on (λ m next. done (found ++ next ∷ [])) h
+    (answers (ap (λ s. found ++ routine_in s x ∷ []) (sym h.spellings))))) (routine_further h))
+
+pub routines_end : {old now : Place} (all : List CodeRoutine) → routines_so_far old now all
+    → (k.Procedure ≡ (head now.tokens).kind → ⊥) → (k.Function ≡ (head now.tokens).kind → ⊥)
+    → Parses routines (λ s. map (routine_in s)) old (Ok all) now
+routines_end all so one other = loop_ends so (λ m. no_routine m _ _ _ _ one other) refl
+
+-- a name, which is `forward` or not
+pub forward_there : (b : Bool) (ts : List Token) → k.Name ≡ (head ts).kind → Fits (head ts).kind (head ts).payload
+    → b ≡ bytes_eq (spelled_by (head ts).payload) forward_name
+    → run forward_line ts ≡ run (forward_line_if b (head ts).line) ts
+forward_there b ts is fits same = goes (head ts).kind (head ts).payload (head ts).line is fits same
+  where
+    goes : (kind : Kind) (payload : Payload) (line : ℕ) → k.Name ≡ kind → Fits kind payload
+        → b ≡ bytes_eq (spelled_by payload) forward_name
+        → run (forward_line_at kind payload line) ts ≡ run (forward_line_if b line) ts
+    goes k.Name (spelling name) line is fits same = ap (λ b. run (forward_line_if b line) ts) (sym same)
+    goes k.Name payload line is fits same = absurd fits
+    goes kind payload line is fits same = absurd cc
+
+pub forward_passed : {old new : Place} {line : ℕ} → k.Name ≡ (head old.tokens).kind
+    → Fits (head old.tokens).kind (head old.tokens).payload
+    → true ≡ bytes_eq (spelled_by (head old.tokens).payload) forward_name → Passes old line new
+    → Parses (λ m. forward_line) same old (Ok line) new
+forward_passed {old = old} {line = line} is fits same_name passed =
+    goes_as (λ m. forward_there true old.tokens is fits same_name
+    ∙ ap (λ line. run (skip (done line)) old.tokens) (sym (line_of_head passed)))
+    (skips passed (omega arith) (answers refl))
+
+pub no_forward : {old : Place} → k.Name ≡ (head old.tokens).kind → Fits (head old.tokens).kind (head old.tokens).payload
+    → false ≡ bytes_eq (spelled_by (head old.tokens).payload) forward_name
+    → Parses (λ m. forward_line) same old (Err stop.Misplaced) old
+no_forward {old = old} is fits other = goes_as (λ m. forward_there false old.tokens is fits other) is_misplaced

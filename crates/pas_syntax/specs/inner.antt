@@ -10,3 +10,4 @@ pub mod DeclarationReaders
 pub mod StatementViews
 pub mod TypeViews
 pub mod DeclarationViews
+pub mod RegionViews

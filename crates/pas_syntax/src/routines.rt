@@ -5,7 +5,7 @@ ghost use Rattle.pas_syntax.specs.Views.{separated_in, if_there, behind_in};
 ghost use Rattle.pas_syntax.specs.ProgramViews.{type_name_in, parameter_in, parameters_in, heading_in, body_in};
 ghost use Rattle.pas_syntax.specs.ProgramViews.{routine_in, compound_in};
 ghost use Rattle.pas_syntax.specs.inner.Prog.{head};
-ghost use Rattle.pas_syntax.specs.inner.Places.{Parses, same};
+ghost use Rattle.pas_syntax.specs.inner.Places.{Fits, Parses, same};
 ghost use Rattle.pas_syntax.specs.inner.StatementReaders.{compound as compound_reader};
 ghost use Rattle.pas_syntax.specs.inner.DeclarationReaders as spec;
 ghost use Rattle.pas_syntax.specs.inner.DeclarationViews.{block_in, heading as heading_reader, forward_line};
@@ -162,7 +162,8 @@ fn body(alloc: Global, reader: &mut Reader<'_>) -> Result<Body, Stop>
 
 // Reads `forward`.
 fn forward(reader: &mut Reader<'_>) -> Result<u32, Stop>
-    requires { k.Name ≡ (head reader.old.tokens).kind }
+    requires name { k.Name ≡ (head reader.old.tokens).kind }
+    requires fits { Fits (head reader.old.tokens).kind (head reader.old.tokens).payload }
     ensures { Parses (λ _. forward_line) same reader.old result reader.new }
 {
     if reader.comes(FORWARD) {
