@@ -55,7 +55,6 @@ pub type_named_goes : (ts : List Token) → k.Name ≡ (head ts).kind
     → run type_name ts ≡ run (bind ident (λ name. done (tree.type_named name))) ts
 type_named_goes ts is =
     sym (ap (λ kind. run (type_name_at kind (head ts).payload (head ts).line) ts) is)
-    ∙ ap (λ kind. run (bind (ident_at kind (head ts).payload (head ts).line) (λ name. done (tree.type_named name))) ts) is
 
 left_out_type_at : (kind : Kind) (payload : Payload) (line part : ℕ) → Fits kind payload
     → left_out_type kind ≡ Some part → type_name_at kind payload line ≡ fail (shown part)

@@ -38,7 +38,8 @@ pub fn parse(alloc: Global, text: &[u8]) -> Result<Program, WorkErr>
     ensures ok { IfOk result (λ program. Means text.now (program_in program.spellings program.tree)) }
     ensures fault { IfFault result (λ fault. IsFaultOf text.now fault) }
 {
-    let spellings = spellings(alloc, Cursor::new(text)?)?;
+    let cursor = Cursor::new(text)?;
+    let spellings = spellings(alloc, cursor)?;
     let tree = tree_of(alloc, text, spellings.bytes())?;
     Ok(Program { spellings, tree })
 }
