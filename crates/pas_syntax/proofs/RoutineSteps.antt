@@ -71,18 +71,24 @@ pub left_out_type_goes : (ts : List Token) (part : ℕ) → Fits (head ts).kind 
 left_out_type_goes ts part fits e =
     ap (λ q. run q ts) (left_out_type_at (head ts).kind (head ts).payload (head ts).line part fits e)
 
-no_type_at : (kind : Kind) (payload : Payload) (line : ℕ) → (k.Name ≡ kind → ⊥) → left_out_type kind ≡ None
-    → type_name_at kind payload line ≡ fail misplaced
-no_type_at k.Name payload line not none = absurd (not refl)
-no_type_at k.LeftParenthesis payload line not none = absurd cc
-no_type_at k.Set payload line not none = absurd cc
-no_type_at k.Caret payload line not none = absurd cc
-no_type_at kind payload line not none = refl
+named_type_at : (kind : Kind) (payload : Payload) (line : ℕ) → left_out_type kind ≡ None
+    → type_name_at kind payload line ≡ bind ident (λ name. done (tree.type_named name))
+named_type_at k.LeftParenthesis payload line none = absurd cc
+named_type_at k.Set payload line none = absurd cc
+named_type_at k.Caret payload line none = absurd cc
+named_type_at kind payload line none = refl
+
+no_name_at : (ts : List Token) (kind : Kind) (payload : Payload) (line : ℕ) → (k.Name ≡ kind → ⊥)
+    → run (bind (ident_at kind payload line) (λ name. done (tree.type_named name))) ts
+    ≡ run {A = TypeName} (fail misplaced) ts
+no_name_at ts k.Name payload line not = absurd (not refl)
+no_name_at ts kind payload line not = refl
 
 pub no_type_goes : (ts : List Token) → (k.Name ≡ (head ts).kind → ⊥) → left_out_type (head ts).kind ≡ None
     → run type_name ts ≡ run {A = TypeName} (fail misplaced) ts
 no_type_goes ts not none =
-    ap (λ q. run q ts) (no_type_at (head ts).kind (head ts).payload (head ts).line not none)
+    ap (λ q. run q ts) (named_type_at (head ts).kind (head ts).payload (head ts).line none)
+    ∙ no_name_at ts (head ts).kind (head ts).payload (head ts).line not
 
 -- parameters that are no routines
 parameter_at_goes : (m : ℕ) (kind : Kind) (payload : Payload) (line : ℕ) → (k.Procedure ≡ kind → ⊥)
