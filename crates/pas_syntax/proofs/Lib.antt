@@ -38,3 +38,7 @@ pub mod StatementSteps
 pub mod TypeSteps
 pub mod RowSteps
 pub mod CaseSteps
+pub mod ParameterSteps
+pub mod ParseSteps
+pub mod RegionSteps
+pub mod RoutineSteps

@@ -15,6 +15,16 @@ run_bind (look next) further tokens =
 run_bind (skip reader) further [] = refl
 run_bind (skip reader) further (token ∷ tokens) = run_bind reader further tokens
 
+-- what is read together first can be read one after the other
+pub run_assoc : {A B C : Type 0} (reader : Prog A) (f : A → Prog B) (g : B → Prog C) (tokens : List Token)
+    → run (bind (bind reader f) g) tokens ≡ run (bind reader (λ a. bind (f a) g)) tokens
+run_assoc (done answer) f g tokens = refl
+run_assoc (fail why) f g tokens = refl
+run_assoc (look next) f g tokens =
+    run_assoc (next (head tokens).kind (head tokens).payload (head tokens).line) f g tokens
+run_assoc (skip reader) f g [] = refl
+run_assoc (skip reader) f g (token ∷ tokens) = run_assoc reader f g tokens
+
 -- both are empty, or both begin with the same token
 abbrev pub Same : List Token → List Token → Type 0
 Same [] [] = Unit {0}

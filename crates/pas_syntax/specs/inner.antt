@@ -9,3 +9,5 @@ pub mod StatementReaders
 pub mod DeclarationReaders
 pub mod StatementViews
 pub mod TypeViews
+pub mod DeclarationViews
+pub mod RegionViews

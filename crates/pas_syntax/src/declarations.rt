@@ -1,12 +1,13 @@
 //! How declarations are read.
 ghost use Rattle.pas_syntax.specs.Views.{numeral_in, separated_in, if_there};
-ghost use Rattle.pas_syntax.specs.ProgramViews.{labels_in, rows_in, constant_row_in, type_row_in};
+ghost use Rattle.pas_syntax.specs.ProgramViews.{labels_in, rows_in, constant_row_in, type_row_in, variable_row_in};
 ghost use Rattle.pas_syntax.specs.inner.Prog.{bind};
 ghost use Rattle.pas_syntax.specs.inner.Places.{Parses};
 ghost use Rattle.pas_syntax.specs.inner.Readers.{ident as ident_reader};
 ghost use Rattle.pas_syntax.specs.inner.TypeReaders.{items_by};
 ghost use Rattle.pas_syntax.specs.inner.StatementReaders.{numeral as numeral_reader};
 ghost use Rattle.pas_syntax.specs.inner.DeclarationReaders as spec;
+ghost use Rattle.pas_syntax.specs.inner.DeclarationViews.{declarations_in};
 
 use crate::constants::constant;
 use crate::depth::Depth;
@@ -22,7 +23,9 @@ use sqlite_items::Items;
 use std::alloc::Global;
 
 // Reads `labels consts types vars {routine}`.
-pub(crate) fn declarations(alloc: Global, reader: &mut Reader<'_>) -> Result<Declarations, Stop> {
+pub(crate) fn declarations(alloc: Global, reader: &mut Reader<'_>) -> Result<Declarations, Stop>
+    ensures { Parses spec.declarations declarations_in reader.old result reader.new }
+{
     let labels = labels(alloc, reader)?;
     let constants = constant_rows(alloc, reader)?;
     let types = type_rows(alloc, reader)?;
@@ -142,7 +145,10 @@ fn type_row(alloc: Global, reader: &mut Reader<'_>) -> Result<TypeRow, Stop>
 pub(crate) fn variable_rows(
     alloc: Global,
     reader: &mut Reader<'_>,
-) -> Result<Option<Rows<VariableRow>>, Stop> {
+) -> Result<Option<Rows<VariableRow>>, Stop>
+    ensures { Parses spec.variable_rows (λ spellings. if_there (rows_in spellings (variable_row_in spellings)))
+        reader.old result reader.new }
+{
     let Some(line) = reader.maybe(Kind::Var) else {
         return Ok(None);
     };
@@ -157,7 +163,9 @@ pub(crate) fn variable_rows(
 }
 
 // Reads `ids ":" type ";"`.
-fn variable_row(alloc: Global, reader: &mut Reader<'_>) -> Result<VariableRow, Stop> {
+fn variable_row(alloc: Global, reader: &mut Reader<'_>) -> Result<VariableRow, Stop>
+    ensures { Parses (λ m. bind ident_reader (spec.variable_row_behind m)) variable_row_in reader.old result reader.new }
+{
     let names = idents(alloc, reader)?;
     let colon = reader.take(Kind::Colon)?;
     let form = type_form(alloc, reader, Depth::OUTSIDE)?;

@@ -1,8 +1,10 @@
 //! Programs.
-ghost use Rattle.std.specs.Prelude.{IfOk};
+ghost use Rattle.std.specs.Prelude.{◌≡◌, IfOk, Ok, List};
 ghost use Rattle.wb_base.specs.WorkResult.{IfFault};
-ghost use Rattle.pas_syntax.specs.Parse.{Means, IsFaultOf};
+ghost use Rattle.pas_tokens.specs.Tokens.{Token, tokens_of, fault_in};
+ghost use Rattle.pas_syntax.specs.Parse.{Means, IsFaultOf, left_out, misplaced_by};
 ghost use Rattle.pas_syntax.specs.ProgramViews.{program_in};
+ghost use Rattle.pas_syntax.specs.inner.Places.{spelled_of};
 
 use crate::programs::program_tree;
 use crate::reader::Reader;
@@ -36,27 +38,36 @@ pub fn parse(alloc: Global, text: &[u8]) -> Result<Program, WorkErr>
     ensures ok { IfOk result (λ program. Means text.now (program_in program.spellings program.tree)) }
     ensures fault { IfFault result (λ fault. IsFaultOf text.now fault) }
 {
-    let spellings = spellings(alloc, Cursor::new(text)?)?;
+    let cursor = Cursor::new(text)?;
+    let spellings = spellings(alloc, cursor)?;
     let tree = tree_of(alloc, text, spellings.bytes())?;
     Ok(Program { spellings, tree })
 }
 
 // Reads the tree that a text means, of which these are the spellings.
-fn tree_of(alloc: Global, text: &[u8], spellings: &[u8]) -> Result<ProgramTree, WorkErr> {
-    let mut reader = Reader::new(Cursor::new(text)?, spellings);
+fn tree_of(alloc: Global, text: &[u8], spellings: &[u8]) -> Result<ProgramTree, WorkErr>
+    requires { (tokens : List Token) → tokens_of text.now ≡ Ok tokens → spellings.now ≡ spelled_of tokens }
+    ensures ok { IfOk result (λ tree. Means text.now (program_in spellings.now tree)) }
+    ensures fault { IfFault result (λ fault. IsFaultOf text.now fault) }
+{
+    let cursor = Cursor::new(text)?;
+    let mut reader = Reader::new(cursor, spellings);
     match program_tree(alloc, &mut reader) {
         Ok(tree) => Ok(tree),
         Err(Stop::OutOfMemory) => Err(WorkErr::OutOfMemory),
         Err(Stop::LeftOut(part)) => Err(WorkErr::Fault(left_out(reader.line(), part))),
         Err(Stop::Misplaced) => {
-            let part = part_behind(Cursor::new(text)?, reader.taken());
+            let again = Cursor::new(text)?;
+            let part = part_behind(again, reader.taken());
             Err(WorkErr::Fault(misplaced(reader.line(), part)))
         }
     }
 }
 
 // A part of Pascal that is left out.
-fn left_out(line: u32, which: u8) -> Fault {
+fn left_out(line: u32, which: u8) -> Fault
+    ensures { result ≡ fault_in line (left_out which) }
+{
     Fault {
         code: PASCAL_LEFT_OUT,
         file: FileTag::Pas,
@@ -66,7 +77,9 @@ fn left_out(line: u32, which: u8) -> Fault {
 }
 
 // A token that may not stand where it stands, and the part of Pascal that it shows there, if any.
-fn misplaced(line: u32, part: Option<u8>) -> Fault {
+fn misplaced(line: u32, part: Option<u8>) -> Fault
+    ensures { result ≡ fault_in line (misplaced_by part) }
+{
     match part {
         Some(which) => left_out(line, which),
         None => Fault {

@@ -81,7 +81,8 @@ impl<'t> Reader<'t> {
 
     // The line of the token that comes next.
     pub(crate) fn line(&self) -> u32
-        ensures { result ≡ (head self.now.tokens).line }
+        ensures line { result ≡ (head self.now.tokens).line }
+        ensures tokens { AreTokens self.now.tokens }
     {
         self.peek().line
     }

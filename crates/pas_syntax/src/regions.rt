@@ -1,4 +1,13 @@
 //! What the tokens before a place tell of it.
+ghost use Rattle.std.specs.Prelude.{◌≡◌, ◌<◌, ◌≤◌, suc, length, take, drop};
+ghost use Rattle.wb_base.specs.declared.faults.TheConstants.{FILE_LIMIT};
+ghost use Rattle.pas_tokens.specs.declared.kinds.Kind.{Kind};
+ghost use Rattle.pas_tokens.specs.declared.kinds.Kind.TheVariants as k;
+ghost use Rattle.pas_tokens.specs.inner.CodeCuts.{token_by, payload_by};
+ghost use Rattle.pas_syntax.specs.Regions.{stage_behind, records_behind, part_at_stage, local_part, spells_forward};
+ghost use Rattle.pas_syntax.specs.Regions.{part_behind};
+ghost use Rattle.pas_syntax.specs.inner.Prog.{head};
+ghost use Rattle.pas_syntax.specs.inner.RegionViews.{stage_in, part_in};
 
 use pas_tokens::{Cursor, Kind, Payload, Token};
 use wb_base::faults::{LOCAL_CONSTANTS_AND_TYPES, NESTED_ROUTINES, VARIANT_RECORDS};
@@ -23,7 +32,10 @@ pub(crate) enum Stage {
 
 impl Stage {
     // Behind one token more.
-    fn behind(self, token: Token<'_>) -> Stage {
+    fn behind(self, token: Token<'_>) -> Stage
+        ensures { stage_in result ≡ stage_behind (stage_in self) (token_by token.entry).payload
+            (token_by token.entry).kind }
+    {
         match (self, token.kind) {
             (Stage::Outside, Kind::Procedure | Kind::Function) => Stage::InHeading,
             (Stage::Outside, _) => Stage::Outside,
@@ -39,7 +51,9 @@ impl Stage {
     }
 
     // The part of Pascal that a token of this kind shows here, if it may not stand here.
-    fn part(self, kind: Kind) -> Option<u8> {
+    fn part(self, kind: Kind) -> Option<u8>
+        ensures { result ≡ part_at_stage (stage_in self) kind }
+    {
         match self {
             Stage::BehindHeading | Stage::InDeclarations => local_part(kind),
             _ => None,
@@ -48,7 +62,9 @@ impl Stage {
 }
 
 // Whether a name is `forward`.
-fn spells_forward(payload: Payload<'_>) -> bool {
+fn spells_forward(payload: Payload<'_>) -> bool
+    ensures { (kind : Kind) → k.Name ≡ kind → result ≡ spells_forward (payload_by kind payload.exit) }
+{
     match payload {
         Payload::Spelling(bytes) => bytes.eq_ignore_ascii_case(FORWARD),
         _ => false,
@@ -56,7 +72,9 @@ fn spells_forward(payload: Payload<'_>) -> bool {
 }
 
 // The part of Pascal that a token of this kind shows in the declarations of a routine.
-fn local_part(kind: Kind) -> Option<u8> {
+fn local_part(kind: Kind) -> Option<u8>
+    ensures { result ≡ local_part kind }
+{
     match kind {
         Kind::Procedure | Kind::Function => Some(NESTED_ROUTINES),
         Kind::Const | Kind::Type => Some(LOCAL_CONSTANTS_AND_TYPES),
@@ -79,7 +97,12 @@ impl Region {
     };
 
     // Behind one token more.
-    fn behind(self, token: Token<'_>) -> Region {
+    fn behind(self, token: Token<'_>) -> Region
+        requires { self.records ≤ FILE_LIMIT }
+        ensures records { result.records ≡ records_behind self.records (token_by token.entry).kind }
+        ensures stage { stage_in result.stage ≡ stage_behind (stage_in self.stage) (token_by token.entry).payload
+            (token_by token.entry).kind }
+    {
         Region {
             records: match token.kind {
                 Kind::Record => self.records + 1,
@@ -91,7 +114,9 @@ impl Region {
     }
 
     // The part of Pascal that a token of this kind shows here, if it may not stand here.
-    fn part(self, kind: Kind) -> Option<u8> {
+    fn part(self, kind: Kind) -> Option<u8>
+        ensures { result ≡ part_in self.records (stage_in self.stage) kind }
+    {
         match kind {
             Kind::Case if self.records > 0 => Some(VARIANT_RECORDS),
             Kind::Case => None,
@@ -101,7 +126,11 @@ impl Region {
 }
 
 // The part of Pascal that the token behind so many shows, if it may not stand there.
-pub(crate) fn part_behind(mut cursor: Cursor<'_>, taken: usize) -> Option<u8> {
+pub(crate) fn part_behind(mut cursor: Cursor<'_>, taken: usize) -> Option<u8>
+    requires within { taken < length cursor.entry }
+    requires few { length cursor.entry ≤ suc FILE_LIMIT }
+    ensures { result ≡ part_behind (take taken cursor.entry) (head (drop taken cursor.entry)).kind }
+{
     let mut region = Region::FIRST;
     for _ in 0..taken {
         region = region.behind(cursor.peek());

@@ -1,4 +1,14 @@
 //! How routines are read.
+ghost use Rattle.std.specs.Prelude.{◌≡◌, map};
+ghost use Rattle.pas_tokens.specs.declared.kinds.Kind.TheVariants as k;
+ghost use Rattle.pas_syntax.specs.Views.{separated_in, if_there, behind_in};
+ghost use Rattle.pas_syntax.specs.ProgramViews.{type_name_in, parameter_in, parameters_in, heading_in, body_in};
+ghost use Rattle.pas_syntax.specs.ProgramViews.{routine_in, compound_in};
+ghost use Rattle.pas_syntax.specs.inner.Prog.{head};
+ghost use Rattle.pas_syntax.specs.inner.Places.{Fits, Parses, same};
+ghost use Rattle.pas_syntax.specs.inner.StatementReaders.{compound as compound_reader};
+ghost use Rattle.pas_syntax.specs.inner.DeclarationReaders as spec;
+ghost use Rattle.pas_syntax.specs.inner.DeclarationViews.{block_in, heading as heading_reader, forward_line};
 
 use crate::declarations::{labels, variable_rows};
 use crate::depth::Depth;
@@ -18,7 +28,9 @@ use wb_base::faults::ROUTINES_AS_PARAMETERS;
 const FORWARD: &[u8] = b"forward";
 
 // Reads routines, as many as there are.
-pub(crate) fn routines(alloc: Global, reader: &mut Reader<'_>) -> Result<Items<Routine>, Stop> {
+pub(crate) fn routines(alloc: Global, reader: &mut Reader<'_>) -> Result<Items<Routine>, Stop>
+    ensures { Parses spec.routines (λ spellings. map (routine_in spellings)) reader.old result reader.new }
+{
     let mut all = Items::new(alloc);
     'more: loop {
         match reader.kind() {
@@ -29,7 +41,9 @@ pub(crate) fn routines(alloc: Global, reader: &mut Reader<'_>) -> Result<Items<R
 }
 
 // Reads a heading, a body and the semicolons behind them.
-fn routine(alloc: Global, reader: &mut Reader<'_>) -> Result<Routine, Stop> {
+fn routine(alloc: Global, reader: &mut Reader<'_>) -> Result<Routine, Stop>
+    ensures { Parses (λ m. spec.routine_by m (heading_reader m)) routine_in reader.old result reader.new }
+{
     let heading = heading(alloc, reader)?;
     let behind_heading = reader.take(Kind::Semicolon)?;
     let body = body(alloc, reader)?;
@@ -43,7 +57,9 @@ fn routine(alloc: Global, reader: &mut Reader<'_>) -> Result<Routine, Stop> {
 }
 
 // Reads `"procedure" id [params] | "function" id [params] [":" id]`.
-fn heading(alloc: Global, reader: &mut Reader<'_>) -> Result<Heading, Stop> {
+fn heading(alloc: Global, reader: &mut Reader<'_>) -> Result<Heading, Stop>
+    ensures { Parses heading_reader heading_in reader.old result reader.new }
+{
     match reader.kind() {
         Kind::Procedure => {
             let line = reader.pass();
@@ -62,7 +78,10 @@ fn heading(alloc: Global, reader: &mut Reader<'_>) -> Result<Heading, Stop> {
 }
 
 // Reads `[":" id]`.
-fn result_type(reader: &mut Reader<'_>) -> Result<Option<Behind<Ident>>, Stop> {
+fn result_type(reader: &mut Reader<'_>) -> Result<Option<Behind<Ident>>, Stop>
+    ensures { Parses (λ _. spec.result_type) (λ spellings. if_there (behind_in (type_name_in spellings))) reader.old result
+        reader.new }
+{
     match reader.kind() {
         Kind::Colon => {
             let line = reader.pass();
@@ -74,7 +93,9 @@ fn result_type(reader: &mut Reader<'_>) -> Result<Option<Behind<Ident>>, Stop> {
 }
 
 // Reads `["(" param {";" param} ")"]`.
-fn parameters(alloc: Global, reader: &mut Reader<'_>) -> Result<Option<Parameters>, Stop> {
+fn parameters(alloc: Global, reader: &mut Reader<'_>) -> Result<Option<Parameters>, Stop>
+    ensures { Parses spec.parameters (λ spellings. if_there (parameters_in spellings)) reader.old result reader.new }
+{
     match reader.kind() {
         Kind::LeftParenthesis => {
             let opened = reader.pass();
@@ -91,17 +112,17 @@ fn parameters(alloc: Global, reader: &mut Reader<'_>) -> Result<Option<Parameter
 }
 
 // Reads `param {";" param}`.
-fn parameter_list(alloc: Global, reader: &mut Reader<'_>) -> Result<Separated<Parameter>, Stop> {
+fn parameter_list(alloc: Global, reader: &mut Reader<'_>) -> Result<Separated<Parameter>, Stop>
+    ensures { Parses spec.parameter_list (λ spellings. separated_in (parameter_in spellings)) reader.old result reader.new }
+{
     let first = parameter(alloc, reader)?;
     let mut more = Items::new(alloc);
     'more: loop {
         match reader.kind() {
             Kind::Semicolon => {
                 let line = reader.pass();
-                more.push(Behind {
-                    line,
-                    item: parameter(alloc, reader)?,
-                })?;
+                let item = parameter(alloc, reader)?;
+                more.push(Behind { line, item })?;
             }
             _ => return Ok(Separated { first, more }),
         }
@@ -109,7 +130,9 @@ fn parameter_list(alloc: Global, reader: &mut Reader<'_>) -> Result<Separated<Pa
 }
 
 // Reads `["var"] ids ":" id`.
-fn parameter(alloc: Global, reader: &mut Reader<'_>) -> Result<Parameter, Stop> {
+fn parameter(alloc: Global, reader: &mut Reader<'_>) -> Result<Parameter, Stop>
+    ensures { Parses spec.parameter parameter_in reader.old result reader.new }
+{
     match reader.kind() {
         Kind::Procedure | Kind::Function => Err(Stop::LeftOut(ROUTINES_AS_PARAMETERS)),
         _ => {
@@ -128,7 +151,9 @@ fn parameter(alloc: Global, reader: &mut Reader<'_>) -> Result<Parameter, Stop> 
 }
 
 // Reads `"forward" | labels vars compound`.
-fn body(alloc: Global, reader: &mut Reader<'_>) -> Result<Body, Stop> {
+fn body(alloc: Global, reader: &mut Reader<'_>) -> Result<Body, Stop>
+    ensures { Parses spec.body body_in reader.old result reader.new }
+{
     match reader.kind() {
         Kind::Name => Ok(Body::Forward(forward(reader)?)),
         _ => Ok(Body::Block(block(alloc, reader)?)),
@@ -136,7 +161,11 @@ fn body(alloc: Global, reader: &mut Reader<'_>) -> Result<Body, Stop> {
 }
 
 // Reads `forward`.
-fn forward(reader: &mut Reader<'_>) -> Result<u32, Stop> {
+fn forward(reader: &mut Reader<'_>) -> Result<u32, Stop>
+    requires name { k.Name ≡ (head reader.old.tokens).kind }
+    requires fits { Fits (head reader.old.tokens).kind (head reader.old.tokens).payload }
+    ensures { Parses (λ _. forward_line) same reader.old result reader.new }
+{
     if reader.comes(FORWARD) {
         Ok(reader.pass())
     } else {
@@ -145,7 +174,9 @@ fn forward(reader: &mut Reader<'_>) -> Result<u32, Stop> {
 }
 
 // Reads `labels vars compound`.
-fn block(alloc: Global, reader: &mut Reader<'_>) -> Result<Block, Stop> {
+fn block(alloc: Global, reader: &mut Reader<'_>) -> Result<Block, Stop>
+    ensures { Parses spec.block_by block_in reader.old result reader.new }
+{
     let labels = labels(alloc, reader)?;
     let variables = variable_rows(alloc, reader)?;
     let body = main_compound(alloc, reader)?;
@@ -157,7 +188,9 @@ fn block(alloc: Global, reader: &mut Reader<'_>) -> Result<Block, Stop> {
 }
 
 // Reads the compound statement of a routine or a program.
-pub(crate) fn main_compound(alloc: Global, reader: &mut Reader<'_>) -> Result<Compound, Stop> {
+pub(crate) fn main_compound(alloc: Global, reader: &mut Reader<'_>) -> Result<Compound, Stop>
+    ensures { Parses (λ m. compound_reader m 0) compound_in reader.old result reader.new }
+{
     match reader.kind() {
         Kind::Begin => compound(alloc, reader, Depth::OUTSIDE),
         _ => Err(Stop::Misplaced),

@@ -2,13 +2,14 @@
 ghost use Rattle.std.specs.Prelude.{◌≡◌, ◌+◌, ℕ, length};
 ghost use Rattle.pas_tokens.specs.declared.kinds.Kind.TheVariants as k;
 ghost use Rattle.pas_syntax.specs.Views.{ident_in, constant_in, simple_in, separated_in};
-ghost use Rattle.pas_syntax.specs.ProgramViews.{type_in};
+ghost use Rattle.pas_syntax.specs.ProgramViews.{type_in, type_name_in};
 ghost use Rattle.pas_syntax.specs.inner.Prog.{head, look, skip, bind};
 ghost use Rattle.pas_syntax.specs.inner.Marks.{mark};
 ghost use Rattle.pas_syntax.specs.inner.Readers.{ident as ident_reader};
 ghost use Rattle.pas_syntax.specs.inner.Places.{Fits, Parses, ParsesIn, same};
 ghost use Rattle.pas_syntax.specs.inner.StatementReaders.{with_line};
 ghost use Rattle.pas_syntax.specs.inner.TypeReaders as spec;
+ghost use Rattle.pas_syntax.specs.inner.DeclarationReaders.{type_name as type_name_reader};
 ghost use Rattle.pas_syntax.specs.inner.TypeViews.{IsLeftOut, array_head_in, record_in, group_in, field_list_in};
 
 use crate::constants::constant;
@@ -307,9 +308,16 @@ fn range(reader: &mut Reader<'_>, low: Constant) -> Result<Simple, Stop>
 }
 
 // Reads the name of a type.
-pub(crate) fn type_name(reader: &mut Reader<'_>) -> Result<Ident, Stop> {
-    not_left_out(reader)?;
-    reader.ident()
+pub(crate) fn type_name(reader: &mut Reader<'_>) -> Result<Ident, Stop>
+    ensures { Parses (λ _. type_name_reader) type_name_in reader.old result reader.new }
+{
+    match reader.kind() {
+        Kind::Name => reader.ident(),
+        _ => {
+            not_left_out(reader)?;
+            Err(Stop::Misplaced)
+        }
+    }
 }
 
 // Refuses what is left out where a type may stand.
