@@ -1,0 +1,17 @@
+pub mod ProgLemmas
+pub mod Good
+pub mod Judged
+pub mod TurnLemmas
+pub mod WordLemmas
+pub mod ReachLemmas
+pub mod ExprReads
+pub mod ExprReaches
+pub mod FactorReaches
+pub mod ItemLemmas
+pub mod ConstantLemmas
+pub mod TypeReads
+pub mod MarkLemmas
+pub mod SomeReads
+pub mod PhraseReads
+pub mod PlaceLemmas
+pub mod SoFar
