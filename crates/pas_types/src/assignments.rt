@@ -1,0 +1,82 @@
+//! Assignments (ISO 7185, 6.8.2.2, in this project's profile).
+
+use crate::expressions::value_of;
+use crate::last_lines::{expr_line, variable_line};
+use crate::scopes::{Entity, Scopes};
+use crate::stop::{Stop, demand, fault};
+use crate::typed::{Place, Statement};
+use crate::types::PasType;
+use crate::variables::{place_of, whole};
+use pas_syntax::tree::{Assignment, Ident, Variable};
+use sqlite_items::Boxed;
+use wb_base::faults::{UNKNOWN_NAME, WRONG_TYPE};
+
+// What is assigned to: a place, or the result of the function in whose body it stands.
+#[derive(Drop)]
+enum Target {
+    Place(Place),
+    Result(PasType),
+}
+
+impl Target {
+    // The type of what is assigned to.
+    fn pas_type(&self) -> PasType {
+        match self {
+            Target::Place(place) => place.pas_type(),
+            Target::Result(pas_type) => *pas_type,
+        }
+    }
+}
+
+// What an assignment means: that of a compatible value. Nothing is assigned to a file.
+pub(crate) fn assignment_of(
+    scopes: &mut Scopes<'_>,
+    assignment: &Assignment,
+) -> Result<Statement, Stop> {
+    let target = target_of(scopes, &assignment.target)?;
+    let is_file = scopes.types.is_file(target.pas_type());
+    demand(!is_file, WRONG_TYPE, variable_line(&assignment.target))?;
+    let value = value_of(scopes, &assignment.value)?;
+    let is_fit = scopes.types.are_compatible(target.pas_type(), value.pas_type());
+    demand(is_fit, WRONG_TYPE, expr_line(&assignment.value))?;
+    let value = Boxed::new(scopes.alloc, value)?;
+    match target {
+        Target::Place(place) => {
+            Ok(Statement::Assigns(Boxed::new(scopes.alloc, place)?, value))
+        }
+        Target::Result(pas_type) => {
+            scopes.set_result();
+            Ok(Statement::SetsResult(pas_type, value))
+        }
+    }
+}
+
+// What a variable means as a target, where a name by itself may be that of a function.
+fn target_of(scopes: &Scopes<'_>, variable: &Variable) -> Result<Target, Stop> {
+    if variable.selectors.is_empty() {
+        target_named(scopes, variable.name)
+    } else {
+        Ok(Target::Place(place_of(scopes, variable)?))
+    }
+}
+
+// What a name by itself means as a target.
+fn target_named(scopes: &Scopes<'_>, ident: Ident) -> Result<Target, Stop> {
+    match scopes.named(ident) {
+        Some(Entity::Variable(slot)) => Ok(Target::Place(whole(scopes, slot))),
+        Some(Entity::Routine(number)) => match result_inside(scopes, number) {
+            Some(pas_type) => Ok(Target::Result(pas_type)),
+            None => Err(fault(WRONG_TYPE, ident.line)),
+        },
+        Some(_) => Err(fault(WRONG_TYPE, ident.line)),
+        None => Err(fault(UNKNOWN_NAME, ident.line)),
+    }
+}
+
+// The type of the result of a routine, if it is the function in whose body the place is.
+fn result_inside(scopes: &Scopes<'_>, number: u32) -> Option<PasType> {
+    match &scopes.inner {
+        Some(inner) if inner.number == number => scopes.heading_of(number)?.result,
+        _ => None,
+    }
+}

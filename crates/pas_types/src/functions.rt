@@ -1,0 +1,239 @@
+//! Calls of functions (ISO 7185, 6.7.3, in this project's profile).
+
+use crate::expressions::value_of;
+use crate::last_lines::expr_line;
+use crate::scopes::{Entity, Scopes};
+use crate::stop::{Stop, before, demand, fault};
+use crate::type_forms::char_of;
+use crate::typed::{Call, FileTest, Function, Heading, Mode, Passed, Place, Value, Variable};
+use crate::types::{Base, PasType};
+use crate::variables::{line_behind, whole};
+use pas_syntax::tree::{Expr, Exprs, Factor, FunctionCall, Ident, Sum, Term};
+use sqlite_items::{Boxed, Items};
+use wb_base::faults::{FILE_RULE, UNKNOWN_NAME, WRONG_TYPE};
+
+// What the name of a routine means as a value: the call of a function that takes no arguments.
+pub(crate) fn call_alone(scopes: &Scopes<'_>, ident: Ident, number: u32) -> Result<Value, Stop> {
+    match scopes.heading_of(number) {
+        Some(heading) => match heading.result {
+            Some(_) if !heading.parameters.is_empty() => Err(Stop::Missing),
+            Some(pas_type) => {
+                let call = Call {
+                    routine: number,
+                    pas_type,
+                    passed: Items::new(scopes.alloc),
+                };
+                Ok(Value::Call(Boxed::new(scopes.alloc, call)?))
+            }
+            None => Err(fault(WRONG_TYPE, ident.line)),
+        },
+        None => Err(fault(WRONG_TYPE, ident.line)),
+    }
+}
+
+// What a question to `input` means.
+pub(crate) fn test_alone(scopes: &Scopes<'_>, ident: Ident, test: FileTest) -> Result<Value, Stop> {
+    match scopes.standard_file(b"input") {
+        Some(slot) => {
+            Ok(Value::Tested(test, Boxed::new(scopes.alloc, whole(scopes, slot))?))
+        }
+        None => Err(fault(FILE_RULE, ident.line)),
+    }
+}
+
+// What the call of a function with arguments means.
+#[cycle(expression)]
+pub(crate) fn called(scopes: &Scopes<'_>, call: &FunctionCall) -> Result<Value, Stop> {
+    match scopes.named(call.name) {
+        Some(Entity::Routine(number)) => routine_called(scopes, call, number),
+        Some(Entity::Function(function)) => applied(scopes, call, function),
+        Some(Entity::FileTest(test)) => tested(scopes, call, test),
+        Some(_) => Err(fault(WRONG_TYPE, call.name.line)),
+        None => Err(fault(UNKNOWN_NAME, call.name.line)),
+    }
+}
+
+// What the call of a declared function with arguments means.
+#[cycle(expression)]
+fn routine_called(scopes: &Scopes<'_>, call: &FunctionCall, number: u32) -> Result<Value, Stop> {
+    match scopes.heading_of(number) {
+        Some(Heading {
+            result: Some(pas_type),
+            parameters,
+            ..
+        }) => {
+            let call = Call {
+                routine: number,
+                pas_type: *pas_type,
+                passed: passed_to(scopes, parameters.as_slice(), &call.arguments, call.closed)?,
+            };
+            Ok(Value::Call(Boxed::new(scopes.alloc, call)?))
+        }
+        _ => Err(fault(WRONG_TYPE, call.name.line)),
+    }
+}
+
+// The arguments before the parenthesis in this line, as they are passed. Too few show it at that.
+#[cycle(expression)]
+fn passed_to(
+    scopes: &Scopes<'_>,
+    parameters: &[Variable],
+    arguments: &Exprs,
+    closed: u32,
+) -> Result<Items<Passed>, Stop> {
+    let mut passed = Items::new(scopes.alloc);
+    let behind = line_behind(arguments, 0, closed);
+    passed.push(argument_of(scopes, parameters.first(), &arguments.first, behind)?)?;
+    for (index, more) in arguments.more.as_slice().iter().enumerate() {
+        let behind = line_behind(arguments, index + 1, closed);
+        passed.push(argument_of(scopes, parameters.get(index + 1), &more.value, behind)?)?;
+    }
+    demand(parameters.len() <= passed.len(), WRONG_TYPE, closed)?;
+    Ok(passed)
+}
+
+// An argument as it is passed to a parameter, if there is one, where the token behind it stands in this line. One too
+// many shows it at its first token.
+#[cycle(expression)]
+pub(crate) fn argument_of(
+    scopes: &Scopes<'_>,
+    parameter: Option<&Variable>,
+    expr: &Expr,
+    behind: u32,
+) -> Result<Passed, Stop> {
+    match parameter {
+        Some(parameter) => {
+            let value = before(behind, value_of(scopes, expr))?;
+            passed_by(scopes, *parameter, value, expr_line(expr))
+        }
+        None => Err(one_too_many(scopes, expr)),
+    }
+}
+
+// A value of which the last token stands in this line as it is passed: a variable parameter takes a variable of its
+// type that is no buffer of a file, another one a compatible value.
+fn passed_by(
+    scopes: &Scopes<'_>,
+    parameter: Variable,
+    value: Value,
+    line: u32,
+) -> Result<Passed, Stop> {
+    match (parameter.mode, value) {
+        (Mode::ByName, Value::Read(place)) => {
+            let place = place.into_inner();
+            let is_same = place.pas_type() == parameter.pas_type;
+            demand(is_same && !place.is_buffer(), WRONG_TYPE, line)?;
+            Ok(Passed::Reference(place))
+        }
+        (Mode::ByName, _) => Err(fault(WRONG_TYPE, line)),
+        (_, value) => {
+            let is_fit = scopes.types.are_compatible(parameter.pas_type, value.pas_type());
+            demand(is_fit, WRONG_TYPE, line)?;
+            Ok(Passed::Value(parameter.pas_type, value))
+        }
+    }
+}
+
+// What a required function of its one argument means.
+#[cycle(expression)]
+fn applied(scopes: &Scopes<'_>, call: &FunctionCall, function: Function) -> Result<Value, Stop> {
+    let first = &call.arguments.first;
+    let behind = line_behind(&call.arguments, 0, call.closed);
+    let value = before(behind, value_of(scopes, first))?;
+    demand(takes(scopes, function, value.pas_type()), WRONG_TYPE, expr_line(first))?;
+    nothing_more(scopes, &call.arguments)?;
+    Ok(Value::Applied(function, Boxed::new(scopes.alloc, value)?))
+}
+
+// Whether a required function takes values of a type.
+fn takes(scopes: &Scopes<'_>, function: Function, pas_type: PasType) -> bool {
+    match function {
+        Function::Ord => scopes.types.base_of(pas_type).is_some(),
+        _ => scopes.types.is_of(Base::Integer, pas_type),
+    }
+}
+
+// What a question to a file means.
+#[cycle(expression)]
+fn tested(scopes: &Scopes<'_>, call: &FunctionCall, test: FileTest) -> Result<Value, Stop> {
+    let first = &call.arguments.first;
+    let behind = line_behind(&call.arguments, 0, call.closed);
+    let value = before(behind, value_of(scopes, first))?;
+    let file = file_only(scopes, value, expr_line(first))?;
+    let is_fit = match test {
+        FileTest::Eof => true,
+        FileTest::Eoln => file.get().pas_type() == PasType::Text,
+    };
+    demand(is_fit, FILE_RULE, expr_line(first))?;
+    nothing_more(scopes, &call.arguments)?;
+    Ok(Value::Tested(test, file))
+}
+
+// The file that a value is of which the last token stands in this line.
+pub(crate) fn file_only(
+    scopes: &Scopes<'_>,
+    value: Value,
+    line: u32,
+) -> Result<Boxed<Place>, Stop> {
+    match value {
+        Value::Read(place) if scopes.types.is_file(place.get().pas_type()) => Ok(place),
+        _ => Err(fault(WRONG_TYPE, line)),
+    }
+}
+
+// Refuses a second argument.
+fn nothing_more(scopes: &Scopes<'_>, arguments: &Exprs) -> Result<(), Stop> {
+    match arguments.more.get(0) {
+        Some(more) => Err(one_too_many(scopes, &more.value)),
+        None => Ok(()),
+    }
+}
+
+// Why an expression is refused that is one too many: its first token shows it, unless it shows a lower fault.
+pub(crate) fn one_too_many(scopes: &Scopes<'_>, expr: &Expr) -> Stop {
+    match expr {
+        Expr::Sum(sum) => first_of_sum(scopes, sum),
+        Expr::Relation(left, _, _) => first_of_sum(scopes, left.get()),
+    }
+}
+
+// The same of a sum.
+#[cycle(first_token)]
+fn first_of_sum(scopes: &Scopes<'_>, sum: &Sum) -> Stop {
+    match sum {
+        Sum::FirstTerm(term) => first_of_term(scopes, term),
+        Sum::SignedTerm(sign, _) => fault(WRONG_TYPE, sign.line),
+        Sum::MoreTerms(left, _, _) => first_of_sum(scopes, left.get()),
+    }
+}
+
+// The same of a term.
+#[cycle(first_token)]
+fn first_of_term(scopes: &Scopes<'_>, term: &Term) -> Stop {
+    match term {
+        Term::FirstFactor(factor) => first_of_factor(scopes, factor),
+        Term::MoreFactors(left, _, _) => first_of_term(scopes, left.get()),
+    }
+}
+
+// The same of a factor.
+fn first_of_factor(scopes: &Scopes<'_>, factor: &Factor) -> Stop {
+    match factor {
+        Factor::Literal(numeral) => fault(WRONG_TYPE, numeral.line),
+        Factor::Text(quoted) => match char_of(scopes, *quoted) {
+            Ok(_) => fault(WRONG_TYPE, quoted.line),
+            Err(stop) => stop,
+        },
+        Factor::Parenthesized(line, _, _) | Factor::Negated(line, _) => fault(WRONG_TYPE, *line),
+        Factor::Variable(variable) => first_of_name(scopes, variable.get().name),
+        Factor::Call(call) => first_of_name(scopes, call.get().name),
+    }
+}
+
+// The same of a name.
+fn first_of_name(scopes: &Scopes<'_>, ident: Ident) -> Stop {
+    match scopes.named(ident) {
+        Some(_) => fault(WRONG_TYPE, ident.line),
+        None => fault(UNKNOWN_NAME, ident.line),
+    }
+}

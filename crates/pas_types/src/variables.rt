@@ -1,0 +1,122 @@
+//! Variables and their parts (ISO 7185, 6.5, in this project's profile).
+
+use crate::expressions::{only, value_of};
+use crate::functions::one_too_many;
+use crate::last_lines::{expr_line, selector_line};
+use crate::scopes::{Entity, Scopes};
+use crate::stop::{Stop, before, demand, fault};
+use crate::typed::{Part, Place, Slot};
+use crate::types::Elements;
+use pas_syntax::tree::{Expr, Exprs, Ident, Selector, Variable};
+use sqlite_items::Items;
+use wb_base::faults::{UNKNOWN_NAME, WRONG_TYPE};
+
+// A whole variable.
+pub(crate) fn whole(scopes: &Scopes<'_>, slot: Slot) -> Place {
+    Place {
+        slot,
+        parts: Items::new(scopes.alloc),
+    }
+}
+
+// What a variable means as a place.
+#[cycle(expression)]
+pub(crate) fn place_of(scopes: &Scopes<'_>, variable: &Variable) -> Result<Place, Stop> {
+    let slot = variable_named(scopes, variable.name)?;
+    let mut place = whole(scopes, slot);
+    let mut line = variable.name.line;
+    for selector in variable.selectors.as_slice() {
+        select(scopes, &mut place, line, selector)?;
+        line = selector_line(selector);
+    }
+    Ok(place)
+}
+
+// The variable that a name stands for.
+fn variable_named(scopes: &Scopes<'_>, ident: Ident) -> Result<Slot, Stop> {
+    match scopes.named(ident) {
+        Some(Entity::Variable(slot)) => Ok(slot),
+        Some(_) => Err(fault(WRONG_TYPE, ident.line)),
+        None => Err(fault(UNKNOWN_NAME, ident.line)),
+    }
+}
+
+// Selects a part of a place, of which the last token stands in this line.
+#[cycle(expression)]
+fn select(
+    scopes: &Scopes<'_>,
+    place: &mut Place,
+    line: u32,
+    selector: &Selector,
+) -> Result<(), Stop> {
+    match selector {
+        Selector::Indexes(_, indexes, closed) => {
+            let is_array = scopes.types.elements_of(place.pas_type()).is_some();
+            demand(is_array, WRONG_TYPE, line)?;
+            select_elements(scopes, place, indexes.get(), *closed)
+        }
+        Selector::Field(_, ident) => select_field(scopes, place, line, *ident),
+        Selector::Buffer(_) => match scopes.types.component_of(place.pas_type()) {
+            Some(component) => Ok(place.parts.push(Part::Buffer(component))?),
+            None => Err(fault(WRONG_TYPE, line)),
+        },
+    }
+}
+
+// Selects elements, one index after another, before the bracket in this line.
+#[cycle(expression)]
+fn select_elements(
+    scopes: &Scopes<'_>,
+    place: &mut Place,
+    indexes: &Exprs,
+    closed: u32,
+) -> Result<(), Stop> {
+    select_element(scopes, place, &indexes.first, line_behind(indexes, 0, closed))?;
+    for (index, more) in indexes.more.as_slice().iter().enumerate() {
+        let behind = line_behind(indexes, index + 1, closed);
+        select_element(scopes, place, &more.value, behind)?;
+    }
+    Ok(())
+}
+
+// The line of the token behind one of some expressions.
+pub(crate) fn line_behind(exprs: &Exprs, index: usize, closed: u32) -> u32 {
+    match exprs.more.get(index) {
+        Some(more) => more.line,
+        None => closed,
+    }
+}
+
+// Selects an element by an index, which is of the base of the indexes. An index too many shows it at its first token.
+#[cycle(expression)]
+fn select_element(
+    scopes: &Scopes<'_>,
+    place: &mut Place,
+    index: &Expr,
+    behind: u32,
+) -> Result<(), Stop> {
+    match scopes.types.elements_of(place.pas_type()) {
+        Some(Elements { indexes, element }) => {
+            let value = before(behind, value_of(scopes, index))?;
+            only(scopes, indexes.base, &value, expr_line(index))?;
+            Ok(place.parts.push(Part::Element(indexes, element, value))?)
+        }
+        None => Err(one_too_many(scopes, index)),
+    }
+}
+
+// Selects a field of a record.
+fn select_field(
+    scopes: &Scopes<'_>,
+    place: &mut Place,
+    line: u32,
+    ident: Ident,
+) -> Result<(), Stop> {
+    let pas_type = place.pas_type();
+    let is_record = scopes.types.fields_of(pas_type).is_some();
+    demand(is_record, WRONG_TYPE, line)?;
+    match scopes.field_named(pas_type, ident) {
+        Some(field) => Ok(place.parts.push(field)?),
+        None => Err(fault(UNKNOWN_NAME, ident.line)),
+    }
+}
