@@ -37,13 +37,13 @@ pub(crate) fn assignment_of(
     let is_file = scopes.types.is_file(target.pas_type());
     demand(!is_file, WRONG_TYPE, variable_line(&assignment.target))?;
     let value = value_of(scopes, &assignment.value)?;
-    let is_fit = scopes.types.are_compatible(target.pas_type(), value.pas_type());
+    let is_fit = scopes
+        .types
+        .are_compatible(target.pas_type(), value.pas_type());
     demand(is_fit, WRONG_TYPE, expr_line(&assignment.value))?;
     let value = Boxed::new(scopes.alloc, value)?;
     match target {
-        Target::Place(place) => {
-            Ok(Statement::Assigns(Boxed::new(scopes.alloc, place)?, value))
-        }
+        Target::Place(place) => { Ok(Statement::Assigns(Boxed::new(scopes.alloc, place)?, value)) }
         Target::Result(pas_type) => {
             scopes.set_result();
             Ok(Statement::SetsResult(pas_type, value))

@@ -47,11 +47,13 @@ fn call_alone(scopes: &Scopes<'_>, ident: Ident) -> Result<Statement, Stop> {
 // What the name of a routine means as a statement: the call of a procedure that takes no arguments.
 fn routine_alone(scopes: &Scopes<'_>, ident: Ident, number: u32) -> Result<Statement, Stop> {
     match scopes.heading_of(number) {
-        Some(Heading {
-            result: None,
-            parameters,
-            ..
-        }) => {
+        Some(
+            Heading {
+                result: None,
+                parameters,
+                ..
+            },
+        ) => {
             if parameters.is_empty() {
                 Ok(Statement::Calls(number, Items::new(scopes.alloc)))
             } else {
@@ -91,11 +93,13 @@ fn routine_with(
     arguments: &Arguments,
 ) -> Result<Statement, Stop> {
     match scopes.heading_of(number) {
-        Some(Heading {
-            result: None,
-            parameters,
-            ..
-        }) => Ok(Statement::Calls(number, passed_to(scopes, parameters.as_slice(), arguments)?)),
+        Some(
+            Heading {
+                result: None,
+                parameters,
+                ..
+            },
+        ) => Ok(Statement::Calls(number, passed_to(scopes, parameters.as_slice(), arguments)?)),
         _ => Err(fault(WRONG_TYPE, ident.line)),
     }
 }
@@ -114,7 +118,11 @@ fn passed_to(
         passed.push(argument_of(scopes, parameter, &argument.value, behind)?)?;
         no_width(argument)?;
     }
-    demand(parameters.len() <= passed.len(), WRONG_TYPE, arguments.closed)?;
+    demand(
+        parameters.len() <= passed.len(),
+        WRONG_TYPE,
+        arguments.closed,
+    )?;
     Ok(passed)
 }
 

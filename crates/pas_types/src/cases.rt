@@ -40,8 +40,7 @@ pub(crate) fn case_of(
     match others {
         Others::Others(_, chosen, semicolon) => {
             let behind = semicolon.unwrap_or(end);
-            let chosen =
-                before(behind, statement_of(scopes, Spot::Elsewhere, chosen.get()))?;
+            let chosen = before(behind, statement_of(scopes, Spot::Elsewhere, chosen.get()))?;
             Ok(Statement::CaseOthers(selector, arms, Boxed::new(scopes.alloc, chosen)?))
         }
         _ => Ok(Statement::Case(selector, arms)),
@@ -75,7 +74,10 @@ fn arms_of(
     end: u32,
 ) -> Result<Arms, Stop> {
     let mut more = Items::new(scopes.alloc);
-    let first = before(line_behind(elements, 0, end), arm_of(scopes, choices, &elements.first))?;
+    let first = before(
+        line_behind(elements, 0, end),
+        arm_of(scopes, choices, &elements.first),
+    )?;
     for (index, next) in elements.more.as_slice().iter().enumerate() {
         let behind = line_behind(elements, index + 1, end);
         more.push(before(behind, arm_of(scopes, choices, &next.element))?)?;
@@ -93,11 +95,7 @@ fn line_behind(elements: &Elements, index: usize, end: u32) -> u32 {
 
 // What an element of a case means.
 #[cycle(statement)]
-fn arm_of(
-    scopes: &mut Scopes<'_>,
-    choices: &mut Choices,
-    element: &Element,
-) -> Result<Arm, Stop> {
+fn arm_of(scopes: &mut Scopes<'_>, choices: &mut Choices, element: &Element) -> Result<Arm, Stop> {
     let constants = constants_of(scopes, choices, &element.constants)?;
     let statement = statement_of(scopes, Spot::Elsewhere, &element.statement)?;
     Ok(Arm {
@@ -121,11 +119,7 @@ fn constants_of(
 }
 
 // A constant of an element, which is of the base of the selector, and was not there before.
-fn choice_of(
-    scopes: &Scopes<'_>,
-    choices: &mut Choices,
-    constant: Constant,
-) -> Result<i64, Stop> {
+fn choice_of(scopes: &Scopes<'_>, choices: &mut Choices, constant: Constant) -> Result<i64, Stop> {
     let found = constant_of(scopes, constant)?;
     demand(found.base == choices.base, WRONG_TYPE, found.line)?;
     let is_new = choices.taken.insert(found.value)?;

@@ -63,10 +63,7 @@ fn constant_row(scopes: &mut Scopes<'_>, row: &ConstantRow) -> Result<(), Stop> 
 }
 
 // Declares types.
-pub(crate) fn types_of(
-    scopes: &mut Scopes<'_>,
-    rows: Option<&Rows<TypeRow>>,
-) -> Result<(), Stop> {
+pub(crate) fn types_of(scopes: &mut Scopes<'_>, rows: Option<&Rows<TypeRow>>) -> Result<(), Stop> {
     if let Some(rows) = rows {
         type_row(scopes, &rows.first)?;
         for row in rows.more.as_slice() {
@@ -147,9 +144,9 @@ fn add_cells(scopes: &mut Scopes<'_>, pas_type: PasType, count: usize) {
 
 // Variables of the program of a file type are its parameters, and all its variables have no more cells than the limit.
 fn global_only(scopes: &Scopes<'_>, idents: &[Ident], formed: Formed) -> Formed {
-    let are_parameters = idents
-        .iter()
-        .all(|ident| scopes.parameters.contains(scopes.spelling(ident.span)));
+    let are_parameters = idents.iter().all(|ident| scopes
+        .parameters
+        .contains(scopes.spelling(ident.span)));
     let is_file = scopes.types.is_file(formed.pas_type);
     formed
         .noted(!is_file || are_parameters, FILE_RULE)

@@ -36,7 +36,9 @@ fn comparison_of(
     let is_ordinal = scopes.types.base_of(first.pas_type()).is_some();
     demand(is_ordinal, WRONG_TYPE, sum_line(left))?;
     let second = sum_of(scopes, right)?;
-    let is_like = scopes.types.are_compatible(first.pas_type(), second.pas_type());
+    let is_like = scopes
+        .types
+        .are_compatible(first.pas_type(), second.pas_type());
     demand(is_like, WRONG_TYPE, sum_line(right))?;
     Ok(Value::Comparison(
         Boxed::new(scopes.alloc, first)?,
@@ -116,9 +118,7 @@ fn product_of(
 #[cycle(expression)]
 fn factor_of(scopes: &Scopes<'_>, factor: &Factor) -> Result<Value, Stop> {
     match factor {
-        Factor::Literal(numeral) => {
-            Ok(Value::Constant(Base::Integer, i64::from(numeral.value)))
-        }
+        Factor::Literal(numeral) => { Ok(Value::Constant(Base::Integer, i64::from(numeral.value))) }
         Factor::Text(quoted) => {
             let found = char_of(scopes, *quoted)?;
             Ok(Value::Constant(found.base, found.value))
@@ -129,7 +129,9 @@ fn factor_of(scopes: &Scopes<'_>, factor: &Factor) -> Result<Value, Stop> {
         }
         Factor::Negated(_, factor) => {
             let value = factor_of(scopes, factor.get())?;
-            only(scopes, Base::Boolean, &value, factor_line(factor.get()))?;
+            if !scopes.types.is_of(Base::Boolean, value.pas_type()) {
+                return Err(fault(WRONG_TYPE, factor_line(factor.get())));
+            }
             Ok(Value::Negated(Boxed::new(scopes.alloc, value)?))
         }
         Factor::Variable(variable) => variable_value(scopes, variable.get()),

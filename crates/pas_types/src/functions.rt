@@ -34,9 +34,7 @@ pub(crate) fn call_alone(scopes: &Scopes<'_>, ident: Ident, number: u32) -> Resu
 // What a question to `input` means.
 pub(crate) fn test_alone(scopes: &Scopes<'_>, ident: Ident, test: FileTest) -> Result<Value, Stop> {
     match scopes.standard_file(b"input") {
-        Some(slot) => {
-            Ok(Value::Tested(test, Boxed::new(scopes.alloc, whole(scopes, slot))?))
-        }
+        Some(slot) => { Ok(Value::Tested(test, Boxed::new(scopes.alloc, whole(scopes, slot))?)) }
         None => Err(fault(FILE_RULE, ident.line)),
     }
 }
@@ -57,11 +55,13 @@ pub(crate) fn called(scopes: &Scopes<'_>, call: &FunctionCall) -> Result<Value, 
 #[cycle(expression)]
 fn routine_called(scopes: &Scopes<'_>, call: &FunctionCall, number: u32) -> Result<Value, Stop> {
     match scopes.heading_of(number) {
-        Some(Heading {
-            result: Some(pas_type),
-            parameters,
-            ..
-        }) => {
+        Some(
+            Heading {
+                result: Some(pas_type),
+                parameters,
+                ..
+            },
+        ) => {
             let call = Call {
                 routine: number,
                 pas_type: *pas_type,
@@ -127,7 +127,9 @@ fn passed_by(
         }
         (Mode::ByName, _) => Err(fault(WRONG_TYPE, line)),
         (_, value) => {
-            let is_fit = scopes.types.are_compatible(parameter.pas_type, value.pas_type());
+            let is_fit = scopes
+                .types
+                .are_compatible(parameter.pas_type, value.pas_type());
             demand(is_fit, WRONG_TYPE, line)?;
             Ok(Passed::Value(parameter.pas_type, value))
         }
@@ -140,7 +142,11 @@ fn applied(scopes: &Scopes<'_>, call: &FunctionCall, function: Function) -> Resu
     let first = &call.arguments.first;
     let behind = line_behind(&call.arguments, 0, call.closed);
     let value = before(behind, value_of(scopes, first))?;
-    demand(takes(scopes, function, value.pas_type()), WRONG_TYPE, expr_line(first))?;
+    demand(
+        takes(scopes, function, value.pas_type()),
+        WRONG_TYPE,
+        expr_line(first),
+    )?;
     nothing_more(scopes, &call.arguments)?;
     Ok(Value::Applied(function, Boxed::new(scopes.alloc, value)?))
 }
@@ -198,7 +204,6 @@ pub(crate) fn one_too_many(scopes: &Scopes<'_>, expr: &Expr) -> Stop {
 }
 
 // The same of a sum.
-#[cycle(first_token)]
 fn first_of_sum(scopes: &Scopes<'_>, sum: &Sum) -> Stop {
     match sum {
         Sum::FirstTerm(term) => first_of_term(scopes, term),
@@ -208,7 +213,6 @@ fn first_of_sum(scopes: &Scopes<'_>, sum: &Sum) -> Stop {
 }
 
 // The same of a term.
-#[cycle(first_token)]
 fn first_of_term(scopes: &Scopes<'_>, term: &Term) -> Stop {
     match term {
         Term::FirstFactor(factor) => first_of_factor(scopes, factor),

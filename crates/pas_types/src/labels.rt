@@ -48,7 +48,11 @@ impl Labels {
     // Declares a label.
     fn declare(&mut self, numeral: Numeral) -> Result<(), Stop> {
         demand(!self.has(numeral.value), DUPLICATE_NAME, numeral.line)?;
-        demand(numeral.value <= GREATEST_LABEL, CONSTANT_OUT_OF_RANGE, numeral.line)?;
+        demand(
+            numeral.value <= GREATEST_LABEL,
+            CONSTANT_OUT_OF_RANGE,
+            numeral.line,
+        )?;
         let label = Label {
             stands: false,
             around: 0,
@@ -106,7 +110,11 @@ impl Labels {
 
     // Puts a label before a statement: it is declared, stands nowhere before, and the statement is one of a list.
     pub(crate) fn stand(&mut self, numeral: Numeral, spot: Spot) -> Result<(), Stop> {
-        demand(numeral.value <= GREATEST_LABEL, CONSTANT_OUT_OF_RANGE, numeral.line)?;
+        demand(
+            numeral.value <= GREATEST_LABEL,
+            CONSTANT_OUT_OF_RANGE,
+            numeral.line,
+        )?;
         match (spot, self.labels.get_mut(&numeral.value)) {
             (Spot::InList, Some(label)) if !label.stands => {
                 label.stands = true;

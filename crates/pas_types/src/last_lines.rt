@@ -27,7 +27,6 @@ pub(crate) fn term_line(term: &Term) -> u32 {
 }
 
 // The line of the last token of a factor.
-#[cycle(last_line)]
 pub(crate) fn factor_line(factor: &Factor) -> u32 {
     match factor {
         Factor::Literal(numeral) => numeral.line,

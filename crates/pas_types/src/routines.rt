@@ -11,9 +11,7 @@ use crate::typed::{Body as TypedBody, Heading as TypedHeading, Mode};
 use crate::types::PasType;
 use pas_syntax::tree::{Behind, Block, Body, Heading, Ident, Parameter, Parameters, Routine};
 use sqlite_items::Items;
-use wb_base::faults::{
-    DUPLICATE_NAME, RESULT_NEVER_ASSIGNED, TOO_LARGE, WRONG_LABEL, WRONG_TYPE,
-};
+use wb_base::faults::{DUPLICATE_NAME, RESULT_NEVER_ASSIGNED, TOO_LARGE, WRONG_LABEL, WRONG_TYPE};
 
 #[derive(Clone, Copy, Debug, PartialEq, Eq)]
 enum Sort {
@@ -74,10 +72,7 @@ pub(crate) fn routines_of(
 }
 
 // What the body of a routine means, if it has one.
-fn routine_of(
-    scopes: &mut Scopes<'_>,
-    routine: &Routine,
-) -> Result<Option<TypedBody>, Stop> {
+fn routine_of(scopes: &mut Scopes<'_>, routine: &Routine) -> Result<Option<TypedBody>, Stop> {
     let head = head_of(routine);
     let awaited = awaited(scopes, &head);
     let number = match awaited {
@@ -103,7 +98,11 @@ fn awaited(scopes: &Scopes<'_>, head: &Head<'_>) -> Option<u32> {
             let known = scopes.routines.get(*number as usize)?;
             let is_function = known.heading.result.is_some();
             let is_same = is_function == (head.sort == Sort::Function);
-            if is_same && known.awaited.is_some() { Some(*number) } else { None }
+            if is_same && known.awaited.is_some() {
+                Some(*number)
+            } else {
+                None
+            }
         }
         _ => None,
     }

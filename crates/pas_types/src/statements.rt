@@ -186,7 +186,9 @@ fn counter_named(scopes: &Scopes<'_>, ident: Ident) -> Result<Slot, Stop> {
 // What a limit of a `for` means, which is compatible with the variable.
 fn limit_of(scopes: &Scopes<'_>, slot: Slot, expr: &Expr) -> Result<Value, Stop> {
     let value = value_of(scopes, expr)?;
-    let is_fit = scopes.types.are_compatible(slot.variable.pas_type, value.pas_type());
+    let is_fit = scopes
+        .types
+        .are_compatible(slot.variable.pas_type, value.pas_type());
     demand(is_fit, WRONG_TYPE, expr_line(expr))?;
     Ok(value)
 }

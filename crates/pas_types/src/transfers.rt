@@ -1,8 +1,6 @@
 //! Reading and writing (ISO 7185, 6.9, in this project's profile).
 
-use crate::calls::{
-    Extent, argument_at, first_value, line_behind, line_behind_value, no_width,
-};
+use crate::calls::{Extent, argument_at, first_value, line_behind, line_behind_value, no_width};
 use crate::expressions::{only, value_of};
 use crate::last_lines::expr_line;
 use crate::scopes::Scopes;
@@ -66,7 +64,11 @@ fn named_file(scopes: &Scopes<'_>, arguments: &Arguments) -> Result<Option<Place
 // Where items alone are read or written, there must be one. The parenthesis behind the arguments shows that none is.
 fn some_item(extent: Extent, transfer: &Transfer, arguments: &Arguments) -> Result<(), Stop> {
     let has_item = transfer.first <= arguments.items.more.len();
-    demand(has_item || extent == Extent::WholeLine, WRONG_TYPE, arguments.closed)
+    demand(
+        has_item || extent == Extent::WholeLine,
+        WRONG_TYPE,
+        arguments.closed,
+    )
 }
 
 // What `read` or `readln` without arguments means.
@@ -89,7 +91,13 @@ pub(crate) fn read_call(
     extent: Extent,
     arguments: &Arguments,
 ) -> Result<Statement, Stop> {
-    let transfer = transfer_of(scopes, line, extent, scopes.standard_file(b"input"), arguments)?;
+    let transfer = transfer_of(
+        scopes,
+        line,
+        extent,
+        scopes.standard_file(b"input"),
+        arguments,
+    )?;
     let mut places = Items::new(scopes.alloc);
     for index in transfer.first..=arguments.items.more.len() {
         let argument = argument_at(arguments, index);
@@ -212,11 +220,7 @@ fn write_text(
 }
 
 // What an item that is written on a text means: an integer, a char or a string, each with a width or not.
-fn item_of(
-    scopes: &mut Scopes<'_>,
-    arguments: &Arguments,
-    index: usize,
-) -> Result<Item, Stop> {
+fn item_of(scopes: &mut Scopes<'_>, arguments: &Arguments, index: usize) -> Result<Item, Stop> {
     let argument = argument_at(arguments, index);
     let behind = line_behind(arguments, index);
     if let Some(text) = long_text(scopes, &argument.value)? {
@@ -239,7 +243,11 @@ fn long_text(scopes: &Scopes<'_>, expr: &Expr) -> Result<Option<Text>, Stop> {
     match expr {
         Expr::Sum(Sum::FirstTerm(Term::FirstFactor(Factor::Text(quoted)))) => {
             let text = undoubled(scopes, scopes.spelling(quoted.span))?;
-            Ok(if text.bytes().len() > 1 { Some(text) } else { None })
+            Ok(if text.bytes().len() > 1 {
+                Some(text)
+            } else {
+                None
+            })
         }
         _ => Ok(None),
     }
@@ -261,11 +269,7 @@ fn undoubled(scopes: &Scopes<'_>, text: &[u8]) -> Result<Text, Stop> {
 }
 
 // What the width of an item means, before a token in this line.
-fn width_of(
-    scopes: &Scopes<'_>,
-    argument: &Argument,
-    behind: u32,
-) -> Result<Option<Value>, Stop> {
+fn width_of(scopes: &Scopes<'_>, argument: &Argument, behind: u32) -> Result<Option<Value>, Stop> {
     match &argument.width {
         Some(width) => {
             let value = before(behind, value_of(scopes, &width.item))?;

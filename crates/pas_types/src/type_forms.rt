@@ -225,7 +225,13 @@ fn arrays(scopes: &mut Scopes<'_>, ranges: &[Range], element: Formed) -> Result<
             element: pas_type,
         }))?;
     }
-    Ok(within_limit(scopes, Formed { pas_type, ..element }))
+    Ok(within_limit(
+        scopes,
+        Formed {
+            pas_type,
+            ..element
+        },
+    ))
 }
 
 // A type has no more cells than the limit.
@@ -282,7 +288,9 @@ fn group_of<'p>(
         demand(found.names.insert(name)?, DUPLICATE_NAME, ident.line)?;
     }
     let formed = form_of(scopes, &group.form)?;
-    formed.noted(!scopes.types.is_file(formed.pas_type), FILE_RULE).refused()?;
+    formed
+        .noted(!scopes.types.is_file(formed.pas_type), FILE_RULE)
+        .refused()?;
     for ident in idents.as_slice() {
         let name = scopes.keep(scopes.spelling(ident.span))?;
         found.fields.push(Field {

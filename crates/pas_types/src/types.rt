@@ -3,7 +3,8 @@
 use pas_syntax::tree::Span;
 use pas_tokens::GREATEST_NUMBER;
 use sqlite_items::Items;
-use std::alloc::{AllocError, Global};
+use std::alloc::Global;
+use wb_base::OutOfMemory;
 
 /// The types that the ordinal values are of.
 #[derive(Clone, Copy, Debug, PartialEq, Eq)]
@@ -238,11 +239,11 @@ impl Table {
     }
 
     // Adds what a type expression makes, of types that are there.
-    pub(crate) fn make(&mut self, structure: Structure) -> Result<PasType, AllocError> {
-        let number = self.rows.len();
+    pub(crate) fn make(&mut self, structure: Structure) -> Result<PasType, OutOfMemory> {
+        let number = u32::try_from(self.rows.len()).map_err(|_| OutOfMemory)?;
         let cells = self.cells_in(&structure);
         self.rows.push(TypeRow { structure, cells })?;
-        Ok(PasType::Row(number as u32))
+        Ok(PasType::Row(number))
     }
 
     // How many cells a variable has of what a type expression makes, or more than any type may have.
