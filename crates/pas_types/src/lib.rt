@@ -4,7 +4,7 @@
 mod assignments;
 mod calls;
 mod cases;
-mod check;
+mod checking;
 mod declarations;
 mod expressions;
 mod functions;
@@ -23,6 +23,6 @@ pub mod typed;
 pub mod types;
 mod variables;
 
-pub use check::check;
+pub use checking::check;
 pub use limits::{CELL_LIMIT, GREATEST_LABEL, ROUTINE_CELL_LIMIT, ROUTINE_LIMIT};
 pub use typed::Typed;
