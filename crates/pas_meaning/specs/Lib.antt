@@ -6,4 +6,5 @@ pub mod Store
 pub mod Arithmetic
 pub mod Run
 pub mod Trial
+pub mod Laws
 pub mod TrialRows

@@ -33,11 +33,12 @@ pub data Flow : Type 0 where
   next : Flow
   jump : ℕ → Flow
 
--- where a statement is entered: at its begin; at a label of its list; or, for a `for` that is under way with its last
--- value, at its next turn or at a label in a turn
+-- where a statement is entered: at its begin; at a label of its list; a loop behind the step of its next turn; or a
+-- `for` that is under way with its last value, likewise
 pub data Entry : Type 0 where
   start : Entry
   at : ℕ → Entry
+  again : Entry
   turn : ℤ → Entry
   turn_at : ℤ → ℕ → Entry
 
@@ -180,10 +181,11 @@ components_of table file = unwrap_or (component_of table (type_of_place file)) (
 abbrev pub label_in : Entry → Option ℕ
 label_in start = None
 label_in (at label) = Some label
+label_in again = None
 label_in (turn last) = None
 label_in (turn_at last label) = Some label
 
--- what a program does, with a limit on active calls or not; `below` is what its statements do with a step less
+-- what a program does, with a limit on active calls or not; `below` is what its statements do behind a step
 module _ (limit : Option ℕ) (program : TypedProgram) (below : Doings) where
   -- a call: the step, and then the depth
   abbrev pub body_run : Option Body → List Argument → Doing Store Datum
@@ -356,10 +358,24 @@ module _ (limit : Option ℕ) (program : TypedProgram) (below : Doings) where
   landed list entry around rest (jump label) =
       if has_label list label then take_step >> below (entry label) around else pure (jump label)
 
+  -- a turn of a `while`, of which the list does this, and what comes behind its list
+  abbrev pub behind_while : Value → Statements → Flow → Doing Store Flow
+  behind_while test list flow =
+      landed list at (typed.while test list) (take_step >> below again (typed.while test list)) flow
+
+  abbrev pub while_turn : Value → Statements → Doing Store Flow → Doing Store Flow
+  while_turn test list body = do
+    found ← number_value test
+    (if is_true found then body >>= behind_while test list else pure next)
+
+  -- what comes behind the list of a `repeat`
   abbrev pub until : Statements → Value → Doing Store Flow
   until list test = do
     found ← number_value test
-    (if is_true found then pure next else below start (typed.repeat list test))
+    (if is_true found then pure next else take_step >> below again (typed.repeat list test))
+
+  abbrev pub behind_repeat : Statements → Value → Flow → Doing Store Flow
+  behind_repeat list test flow = landed list at (typed.repeat list test) (until list test) flow
 
   -- a `for` behind a turn: it is at its end where the variable has the last value
   abbrev pub next_turn : Slot → Way → ℤ → Statement → Doing Store Flow
@@ -367,7 +383,8 @@ module _ (limit : Option ℕ) (program : TypedProgram) (below : Doings) where
     found ← ask (λ store. number_at (home_of slot store) store)
     (if is_same found last then pure next else (do
       following ← answered (within_maxint (next_value way found))
-      store_at program.types slot.variable.type (part slot []) (holds following)
+      store_at program.types slot.type (part slot []) (holds following)
+      take_step
       below (turn last) loop))
 
   abbrev pub behind_turn : Slot → Way → ℤ → Statements → Statement → Flow → Doing Store Flow
@@ -378,9 +395,9 @@ module _ (limit : Option ℕ) (program : TypedProgram) (below : Doings) where
   abbrev pub for_from : Slot → Way → ℤ → ℤ → Doing Store Flow → Doing Store Flow
   for_from slot way first last turns =
       if is_past way first last then change (forget slot) >> pure next else (do
-        low ← answered (fits program.types slot.variable.type (holds first))
-        high ← answered (fits program.types slot.variable.type (holds last))
-        store_at program.types slot.variable.type (part slot []) low
+        low ← answered (fits program.types slot.type (holds first))
+        high ← answered (fits program.types slot.type (holds last))
+        store_at program.types slot.type (part slot []) low
         flow ← turns
         go_on flow (change (forget slot) >> pure next))
 
@@ -416,36 +433,21 @@ module _ (limit : Option ℕ) (program : TypedProgram) (below : Doings) where
     statement from (typed.case_others selector arms s) = do
       found ← number_value selector
       arm found arms (statement start s)
-    statement (at label) (typed.while test list) = do
-      flow ← items (Some label) list
-      landed list at (typed.while test list) (below start (typed.while test list)) flow
-    statement from (typed.while test list) = do
-      take_step
-      found ← number_value test
-      (if is_true found then (do
-        flow ← items None list
-        landed list at (typed.while test list) (below start (typed.while test list)) flow) else pure next)
-    statement (at label) (typed.repeat list test) = do
-      flow ← items (Some label) list
-      landed list at (typed.repeat list test) (until list test) flow
-    statement from (typed.repeat list test) = do
-      take_step
-      flow ← items None list
-      landed list at (typed.repeat list test) (until list test) flow
-    statement (turn last) (typed.for slot way first limit_value list) = do
-      take_step
-      flow ← items None list
-      behind_turn slot way last list (typed.for slot way first limit_value list) flow
-    statement (turn_at last label) (typed.for slot way first limit_value list) = do
-      flow ← items (Some label) list
-      behind_turn slot way last list (typed.for slot way first limit_value list) flow
+    statement again (typed.while test list) = while_turn test list (items None list)
+    statement (at label) (typed.while test list) = items (Some label) list >>= behind_while test list
+    statement from (typed.while test list) = take_step >> while_turn test list (items None list)
+    statement again (typed.repeat list test) = items None list >>= behind_repeat list test
+    statement (at label) (typed.repeat list test) = items (Some label) list >>= behind_repeat list test
+    statement from (typed.repeat list test) = take_step >> (items None list >>= behind_repeat list test)
+    statement (turn last) (typed.for slot way first limit_value list) =
+        items None list >>= behind_turn slot way last list (typed.for slot way first limit_value list)
+    statement (turn_at last label) (typed.for slot way first limit_value list) =
+        items (Some label) list >>= behind_turn slot way last list (typed.for slot way first limit_value list)
     statement from (typed.for slot way first limit_value list) = do
       low ← number_value first
       high ← number_value limit_value
-      for_from slot way low high (do
-        take_step
-        flow ← items None list
-        behind_turn slot way high list (typed.for slot way first limit_value list) flow)
+      for_from slot way low high (take_step
+          >> (items None list >>= behind_turn slot way high list (typed.for slot way first limit_value list)))
     statement from (typed.goto label) = pure (jump label)
     statement from typed.goto_last = halt_at_last
     statement from (typed.file_step step place) = do

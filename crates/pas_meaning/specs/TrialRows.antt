@@ -27,10 +27,10 @@ abbrev i : Variable
 i = record { name = codes "i"; mode = typed.declared; type = whole integer }
 
 abbrev the_output : Place
-the_output = typed.slot (record { home = typed.global; number = 0; variable = output })
+the_output = typed.slot (record { home = typed.global; number = 0; mode = typed.declared; type = text })
 
 abbrev slot_i : Slot
-slot_i = record { home = typed.global; number = 1; variable = i }
+slot_i = record { home = typed.global; number = 1; mode = typed.declared; type = whole integer }
 
 abbrev program_of : Statements → TypedProgram
 program_of list = record {
@@ -79,8 +79,8 @@ minus value = typed.parenthesized (typed.signed sign.Minus (number value))
 abbrev quotients : TypedProgram
 quotients = program_of (typed.one None (typed.writes the_output
     (typed.char_item (digit (typed.product (minus 7) multiplying.Mod (number 3))) None
-    ∷ typed.char_item (digit (typed.addition (typed.product (minus 7) multiplying.Div (number 2)) adding.Plus (number 3)))
-    (Some (number 3)) ∷ [])))
+    ∷ typed.char_item (digit (typed.addition (typed.product (minus 7) multiplying.Div (number 2)) adding.Plus
+    (number 3))) (Some (number 3)) ∷ [])))
 
 pub quotients_written : shown (pascal_trial quotients ([] ∷ []) 0)
     ≡ record { ending = ended (halted 0); bytes = codes "2  0" ∷ [] }

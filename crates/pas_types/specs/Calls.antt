@@ -17,7 +17,7 @@ use Rattle.pas_types.specs.Scopes.{writeln, uexit, Scopes, standard_file}
 use Rattle.pas_types.specs.TypeForms.{undoubled}
 use Rattle.pas_types.specs.Expressions.{type_of, type_of_place, is_of, only, are_compatible, place_in, file_in}
 use Rattle.pas_types.specs.Expressions.{file_only}
-use Rattle.pas_types.specs.Expressions.{compatible_with, Demand, Bare, bare, Argument, met, called, not_called, given}
+use Rattle.pas_types.specs.Expressions.{compatible_with, Demand, Bare, bare, Given, met, called, not_called, given}
 use Rattle.pas_types.specs.Expressions.{demands_of, passed_to, heading_of, first_value, value_of}
 
 -- arguments of a procedure: a value, the text of a string of more than one byte, and a width
@@ -54,40 +54,37 @@ abbrev pub no_width : Option (Judged Value) → Judged Bare
 no_width None = judged no_token (Some bare)
 no_width (Some width) = judged (joined (shows (wrong WRONG_TYPE ∷ []) ∷ width.marks ∷ [])) None
 
-abbrev pub without_width : Actual → Argument
+abbrev pub without_width : Actual → Given
 without_width actual = record { value = actual.value; behind = no_width actual.width }
 
 -- calls of routines, of the steps of files, and of `uexit`
 
-abbrev pub demands_on : Table → Heading → List Demand
-demands_on table heading = demands_of table heading.parameters
-
 -- a routine that is called as a statement is no function
-abbrev pub procedure_with : Scopes → ℕ → Heading → List Argument → Option PasType → Judged Statement
+abbrev pub procedure_with : Scopes → ℕ → Heading → List Given → Option PasType → Judged Statement
 procedure_with scopes number heading arguments (Some type) =
     judged (not_called (wrong WRONG_TYPE ∷ []) arguments) None
 procedure_with scopes number heading arguments None =
-    let demands = demands_on scopes.outer.types heading in
-    judged (called [] demands arguments)
+    let demands = demands_of scopes.outer.types heading.parameters in
+    judged (called demands arguments)
     (known (λ values. typed.calls number (passed_to typed.nothing heading.parameters values))
     (given demands arguments))
 
-abbrev pub routine_with : Scopes → ℕ → List Argument → Option Heading → Judged Statement
+abbrev pub routine_with : Scopes → ℕ → List Given → Option Heading → Judged Statement
 routine_with scopes number arguments None = judged (not_called [] arguments) None
 routine_with scopes number arguments (Some heading) =
     procedure_with scopes number heading arguments heading.result
 
-abbrev pub step_with : Table → FileStep → List Argument → Judged Statement
+abbrev pub step_with : Table → FileStep → List Given → Judged Statement
 step_with table step arguments =
     let demands = file_only table ∷ [] in
-    judged (called [] demands arguments)
+    judged (called demands arguments)
     (known (typed.file_step step) (option_and_then (file_in table)
     (option_and_then first_value (given demands arguments))))
 
-abbrev pub halt_with : Table → List Argument → Judged Statement
+abbrev pub halt_with : Table → List Given → Judged Statement
 halt_with table arguments =
     let demands = only integer table ∷ [] in
-    judged (called [] demands arguments) (known typed.halts (option_and_then first_value (given demands arguments)))
+    judged (called demands arguments) (known typed.halts (option_and_then first_value (given demands arguments)))
 
 -- reading and writing
 
@@ -249,13 +246,14 @@ write_with items_alone table standard actuals =
 write_with whole_line table standard actuals =
     write_text whole_line table (transfer_of whole_line table standard actuals) typed.writes_line
 
--- id "(" arg {"," arg} ")"
+-- the files that are meant where none is named
 abbrev pub input : Scopes → Option Slot
 input scopes = standard_file scopes (codes "input")
 
 abbrev pub output : Scopes → Option Slot
 output scopes = standard_file scopes (codes "output")
 
+-- id "(" arg {"," arg} ")"
 abbrev pub procedure_of : Scopes → Procedure → List Actual → Judged Statement
 procedure_of scopes read actuals = read_with items_alone scopes.outer.types (input scopes) actuals
 procedure_of scopes readln actuals = read_with whole_line scopes.outer.types (input scopes) actuals

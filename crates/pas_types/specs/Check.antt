@@ -12,7 +12,8 @@ use Rattle.pas_types.specs.Marks.{Marks, no_token, quiet, shows, joined, listed,
 use Rattle.pas_types.specs.Types.{text, Table}
 use Rattle.pas_types.specs.TypeForms.{is_lawful_file}
 use Rattle.pas_types.specs.Typed.{declared, Variable, global, TypedProgram}
-use Rattle.pas_types.specs.Scopes.{Entity, variable, Known, Outer, standard_names, contains, idents_of, entity_in}
+use Rattle.pas_types.specs.Scopes.{Entity, variable, KnownRoutine, Outer, standard_names, contains, idents_of}
+use Rattle.pas_types.specs.Scopes.{entity_in}
 use Rattle.pas_types.specs.Labels.{labels_of_list, label_at_end}
 use Rattle.pas_types.specs.Statements.{statements_of}
 use Rattle.pas_types.specs.Declarations.{declared_labels, label_marks, program_scopes, rows_of, constant_row, type_row}
@@ -48,7 +49,7 @@ start program =
 
 -- each parameter of a program is a variable of a lawful file type in its scope
 abbrev pub is_file_variable : Table → Entity → Bool
-is_file_variable table (variable slot) = is_lawful_file table slot.variable.type
+is_file_variable table (variable slot) = is_lawful_file table slot.type
 is_file_variable table entity = false
 
 abbrev pub parameter_faults : Table → Option Entity → List Wrong
@@ -68,11 +69,11 @@ parameter_marks outer (Some parameters) =
     joined (quiet ∷ listed (each_parameter outer [] (idents_of parameters.names)) ∷ quiet ∷ [])
 
 -- each forward heading has its body
-abbrev pub have_bodies : List Known → Bool
+abbrev pub have_bodies : List KnownRoutine → Bool
 have_bodies [] = true
 have_bodies (found ∷ routines) = not found.awaits_body && have_bodies routines
 
-abbrev pub body_missing : List Known → List Wrong
+abbrev pub body_missing : List KnownRoutine → List Wrong
 body_missing routines = unless (have_bodies routines) (wrong UNKNOWN_NAME)
 
 -- the numbers of the globals that are the parameters

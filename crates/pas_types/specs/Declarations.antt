@@ -119,7 +119,7 @@ variables_of mode found spellings = map (λ name. record { name = name; mode = m
 abbrev pub named_slots : Home → ℕ → List Variable → List Named
 named_slots home number [] = []
 named_slots home number (found ∷ variables) =
-    names found.name (variable (record { home = home; number = number; variable = found }))
+    names found.name (variable (record { home = home; number = number; mode = found.mode; type = found.type }))
     ∷ named_slots home (suc number) variables
 
 abbrev pub unclear_names : List (List ℕ) → List Named

@@ -15,9 +15,9 @@ use Rattle.pas_syntax.specs.declared.operators.Relation.{Relation}
 use Rattle.pas_syntax.specs.Tree as tree
 use Rattle.pas_syntax.specs.Tree.{Ident, Expr, Sum, Term, Factor, Exprs}
 use Rattle.pas_types.specs.Marks.{Marks, no_token, quiet, shows, at_first, with_behind, joined, listed, unless}
-use Rattle.pas_types.specs.Marks.{Judged, judged, means, refuses, known, both, checked}
+use Rattle.pas_types.specs.Marks.{Judged, judged, means, refuses, known, both, checked, noted}
 use Rattle.pas_types.specs.Types.{Base, integer, char, boolean, same_base, PasType, whole, text, same_type}
-use Rattle.pas_types.specs.Types.{Field, Elements, Table, range_of, component_of, elements_of, fields_of}
+use Rattle.pas_types.specs.Types.{Field, ArrayParts, Table, range_of, component_of, elements_of, fields_of}
 use Rattle.pas_types.specs.Typed as typed
 use Rattle.pas_types.specs.Typed.{Function, FileTest, Mode, by_name, Variable, Slot, Value, Place, Passed, Heading}
 use Rattle.pas_types.specs.Scopes.{Entity, constant, variable, routine, function, file_test, unclear, Scopes}
@@ -26,7 +26,7 @@ use Rattle.pas_types.specs.TypeForms as forms
 
 -- the type of a place and of a value
 abbrev pub type_of_place : Place → PasType
-type_of_place (typed.slot found) = found.variable.type
+type_of_place (typed.slot found) = found.type
 type_of_place (typed.element place range type index) = type
 type_of_place (typed.field place number type) = type
 type_of_place (typed.buffer place type) = type
@@ -86,7 +86,7 @@ are_compatible_by None None same = same
 abbrev pub are_compatible : Table → PasType → PasType → Bool
 are_compatible table type other =
     are_compatible_by (base_of table type) (base_of table other)
-    (same_type type other && not (is_some (component_of table type)))
+    (same_type type other)
 
 abbrev pub compatible_with : Table → PasType → Value → List Wrong
 compatible_with table type value = unless (are_compatible table type (type_of value)) (wrong WRONG_TYPE)
@@ -124,7 +124,7 @@ as_place (Some entity) = refuses (wrong WRONG_TYPE)
 
 -- an element of an array by its index, which is of the base of the indexes; an index too many shows it at its first
 -- token
-abbrev pub indexed_by : Table → Judged Value → Place → Option Elements → Judged Place
+abbrev pub indexed_by : Table → Judged Value → Place → Option ArrayParts → Judged Place
 indexed_by table index place None = judged (at_first (wrong WRONG_TYPE ∷ []) index.marks) None
 indexed_by table index place (Some found) =
     let part = checked (only found.indexes.base table) index in
@@ -142,8 +142,8 @@ element_of table before index =
 abbrev pub array_only : Table → Place → List Wrong
 array_only table place = unless (is_some (elements_of table (type_of_place place))) (wrong WRONG_TYPE)
 
-abbrev pub array_of : Table → Judged Place → Judged Place
-array_of table place = checked (array_only table) place
+abbrev pub as_array : Table → Judged Place → Judged Place
+as_array table place = checked (array_only table) place
 
 -- a place, and the bracket behind its indexes
 abbrev pub closed_by : Judged Place → Judged Place
@@ -195,15 +195,15 @@ pub data Bare : Type 0 where
   bare : Bare
 
 -- an argument, and what stands behind its value
-pub record Argument : Type 0 where
+pub record Given : Type 0 where
   pub value : Judged Value
   pub behind : Judged Bare
 
-abbrev pub bare_argument : Judged Value → Argument
+abbrev pub bare_argument : Judged Value → Given
 bare_argument value = record { value = value; behind = judged no_token (Some bare) }
 
 -- an argument of which the value must meet a demand
-abbrev pub met : Demand → Argument → Judged Value
+abbrev pub met : Demand → Given → Judged Value
 met demand argument =
     let found = checked demand argument.value in
     judged (joined (found.marks ∷ argument.behind.marks ∷ []))
@@ -213,7 +213,7 @@ abbrev pub asked_nothing : Demand
 asked_nothing value = []
 
 -- arguments by the demands on them: one too many shows it at its first token
-abbrev pub argument_marks : List Demand → List Argument → List Marks
+abbrev pub argument_marks : List Demand → List Given → List Marks
 argument_marks (demand ∷ demands) (argument ∷ arguments) =
     (met demand argument).marks ∷ argument_marks demands arguments
 argument_marks [] (argument ∷ arguments) =
@@ -222,20 +222,20 @@ argument_marks [] (argument ∷ arguments) =
 argument_marks demands [] = []
 
 -- the values of arguments that meet the demands and are as many
-abbrev pub given : List Demand → List Argument → Option (List Value)
+abbrev pub given : List Demand → List Given → Option (List Value)
 given [] [] = Some []
 given (demand ∷ demands) (argument ∷ arguments) =
     both (λ value values. value ∷ values) (met demand argument).value (given demands arguments)
 given demands arguments = None
 
 -- a name, and arguments between parentheses: too few show it at the token behind the last one
-abbrev pub called : List Wrong → List Demand → List Argument → Marks
-called faults demands arguments =
-    joined (shows faults ∷ quiet ∷ listed (argument_marks demands arguments)
+abbrev pub called : List Demand → List Given → Marks
+called demands arguments =
+    joined (quiet ∷ quiet ∷ listed (argument_marks demands arguments)
     ∷ shows (unless (nat_le (length demands) (length arguments)) (wrong WRONG_TYPE)) ∷ [])
 
 -- a name that may not be called so, and arguments
-abbrev pub not_called : List Wrong → List Argument → Marks
+abbrev pub not_called : List Wrong → List Given → Marks
 not_called faults arguments =
     joined (shows faults ∷ quiet ∷ listed (map (λ argument. (met asked_nothing argument).marks) arguments)
     ∷ quiet ∷ [])
@@ -274,17 +274,17 @@ abbrev pub heading_of : Scopes → ℕ → Option Heading
 heading_of scopes number = option_map (λ found. found.heading) (slice_get scopes.outer.routines number)
 
 -- the call of a routine for its value: a procedure has none
-abbrev pub call_with : Scopes → ℕ → Heading → List Argument → Option PasType → Judged Value
+abbrev pub call_with : Scopes → ℕ → Heading → List Given → Option PasType → Judged Value
 call_with scopes number heading arguments None = judged (not_called (wrong WRONG_TYPE ∷ []) arguments) None
 call_with scopes number heading arguments (Some type) =
     let demands = demands_of scopes.outer.types heading.parameters in
-    judged (called [] demands arguments)
+    judged (called demands arguments)
     (known (λ values. typed.call number type (passed_to typed.nothing heading.parameters values))
     (given demands arguments))
 
-abbrev pub call_of : Scopes → ℕ → List Argument → Option Heading → Judged Value
-call_of scopes number arguments None = judged (not_called [] arguments) None
-call_of scopes number arguments (Some heading) = call_with scopes number heading arguments heading.result
+abbrev pub function_call_of : Scopes → ℕ → List Given → Option Heading → Judged Value
+function_call_of scopes number arguments None = judged (not_called [] arguments) None
+function_call_of scopes number arguments (Some heading) = call_with scopes number heading arguments heading.result
 
 -- what a required function takes
 abbrev pub function_demand : Table → Function → Demand
@@ -301,46 +301,56 @@ first_value [] = None
 first_value (value ∷ values) = Some value
 
 -- id "(" expr {"," expr} ")"
-abbrev pub as_call : Scopes → List Argument → Option Entity → Judged Value
+abbrev pub as_call : Scopes → List Given → Option Entity → Judged Value
 as_call scopes arguments None = judged (not_called (wrong UNKNOWN_NAME ∷ []) arguments) None
-as_call scopes arguments (Some (routine number)) = call_of scopes number arguments (heading_of scopes number)
+as_call scopes arguments (Some (routine number)) = function_call_of scopes number arguments (heading_of scopes number)
 as_call scopes arguments (Some (function found)) =
     let demands = function_demand scopes.outer.types found ∷ [] in
-    judged (called [] demands arguments)
+    judged (called demands arguments)
     (known (typed.applied found) (option_and_then first_value (given demands arguments)))
 as_call scopes arguments (Some (file_test test)) =
     let demands = test_demand scopes.outer.types test ∷ [] in
-    judged (called [] demands arguments)
+    judged (called demands arguments)
     (known (typed.tested test) (option_and_then (file_in scopes.outer.types)
     (option_and_then first_value (given demands arguments))))
 as_call scopes arguments (Some unclear) = judged (not_called [] arguments) None
 as_call scopes arguments (Some entity) = judged (not_called (wrong WRONG_TYPE ∷ []) arguments) None
 
--- a name by itself as a value: a constant, a variable, the call of a function without arguments
+-- a name by itself as a value: a constant, a variable, the call of a function without arguments. A function that needs
+-- some shows it at the token behind, and stays known by its type
+abbrev pub any_of_base : Base → Value
+any_of_base base = typed.constant base (pos 0)
+
+abbrev pub any_of : Table → PasType → Option Value
+any_of table type = known any_of_base (base_of table type)
+
+abbrev pub missing_arguments : Option Value → Judged Value
+missing_arguments value = judged (with_behind (wrong WRONG_TYPE ∷ []) quiet) value
+
 abbrev pub without_arguments : ℕ → Option PasType → List Variable → Judged Value
 without_arguments number None parameters = refuses (wrong WRONG_TYPE)
 without_arguments number (Some type) [] = means (typed.call number type typed.nothing)
-without_arguments number (Some type) parameters = judged (with_behind (wrong WRONG_TYPE ∷ []) quiet) None
+without_arguments number (Some type) parameters = missing_arguments (Some (typed.call number type typed.nothing))
 
-abbrev pub call_alone : ℕ → Option Heading → Judged Value
-call_alone number None = judged quiet None
-call_alone number (Some heading) = without_arguments number heading.result heading.parameters
+abbrev pub function_alone : ℕ → Option Heading → Judged Value
+function_alone number None = judged quiet None
+function_alone number (Some heading) = without_arguments number heading.result heading.parameters
 
 abbrev pub test_alone : FileTest → Option Slot → Judged Value
-test_alone test None = refuses (wrong FILE_RULE)
+test_alone test None = judged (shows (wrong FILE_RULE ∷ [])) (Some (any_of_base boolean))
 test_alone test (Some found) = means (typed.tested test (typed.slot found))
 
 abbrev pub as_value : Scopes → Option Entity → Judged Value
 as_value scopes None = refuses (wrong UNKNOWN_NAME)
 as_value scopes (Some (constant base value)) = means (typed.constant base value)
 as_value scopes (Some (variable found)) = means (typed.read (typed.slot found))
-as_value scopes (Some (routine number)) = call_alone number (heading_of scopes number)
-as_value scopes (Some (function found)) = judged (with_behind (wrong WRONG_TYPE ∷ []) quiet) None
+as_value scopes (Some (routine number)) = function_alone number (heading_of scopes number)
+as_value scopes (Some (function found)) = missing_arguments (any_of scopes.outer.types (type_of_function found))
 as_value scopes (Some (file_test test)) = test_alone test (standard_file scopes (codes "input"))
 as_value scopes (Some unclear) = judged quiet None
 as_value scopes (Some entity) = refuses (wrong WRONG_TYPE)
 
--- operators
+-- operators: what they give is known also where an operand does not fit
 
 -- the base of the operands
 abbrev pub product_base : Multiplying → Base
@@ -353,15 +363,15 @@ addition_base op = integer
 
 abbrev pub product_of : Table → Judged Value → Multiplying → Judged Value → Judged Value
 product_of table left op right =
-    let first = checked (only (product_base op) table) left in
-    let second = checked (only (product_base op) table) right in
+    let first = noted (only (product_base op) table) left in
+    let second = noted (only (product_base op) table) right in
     judged (joined (first.marks ∷ quiet ∷ second.marks ∷ []))
     (both (λ one other. typed.product one op other) first.value second.value)
 
 abbrev pub addition_of : Table → Judged Value → Adding → Judged Value → Judged Value
 addition_of table left op right =
-    let first = checked (only (addition_base op) table) left in
-    let second = checked (only (addition_base op) table) right in
+    let first = noted (only (addition_base op) table) left in
+    let second = noted (only (addition_base op) table) right in
     judged (joined (first.marks ∷ quiet ∷ second.marks ∷ []))
     (both (λ one other. typed.addition one op other) first.value second.value)
 
@@ -373,19 +383,19 @@ like table (Some first) value =
 
 abbrev pub comparison_of : Table → Judged Value → Relation → Judged Value → Judged Value
 comparison_of table left relation right =
-    let first = checked (ordinal_only table) left in
-    let second = checked (like table first.value) right in
+    let first = noted (ordinal_only table) left in
+    let second = noted (like table first.value) right in
     judged (joined (first.marks ∷ quiet ∷ second.marks ∷ []))
     (both (λ one other. typed.comparison one relation other) first.value second.value)
 
 abbrev pub signed_of : Table → Sign → Judged Value → Judged Value
 signed_of table sign operand =
-    let part = checked (only integer table) operand in
+    let part = noted (only integer table) operand in
     judged (joined (quiet ∷ part.marks ∷ [])) (known (typed.signed sign) part.value)
 
 abbrev pub negated_of : Table → Judged Value → Judged Value
 negated_of table operand =
-    let part = checked (only boolean table) operand in
+    let part = noted (only boolean table) operand in
     judged (joined (quiet ∷ part.marks ∷ [])) (known typed.negated part.value)
 
 abbrev pub read_of : Judged Place → Judged Value
@@ -433,14 +443,14 @@ module _ (scopes : Scopes) where
     pub variable_value : tree.Variable → Judged Value
     variable_value (tree.whole ident) = as_value scopes (entity_of scopes ident.name)
     variable_value (tree.indexed found opened indexes closed) =
-        read_of (closed_by (elements_at (array_of scopes.outer.types (place_of found)) indexes))
+        read_of (closed_by (elements_at (as_array scopes.outer.types (place_of found)) indexes))
     variable_value (tree.field_of found line ident) = read_of (field_of scopes.outer.types (place_of found) ident)
     variable_value (tree.buffer_of found line) = read_of (buffer_of scopes.outer.types (place_of found))
 
     pub place_of : tree.Variable → Judged Place
     place_of (tree.whole ident) = as_place (entity_of scopes ident.name)
     place_of (tree.indexed found opened indexes closed) =
-        closed_by (elements_at (array_of scopes.outer.types (place_of found)) indexes)
+        closed_by (elements_at (as_array scopes.outer.types (place_of found)) indexes)
     place_of (tree.field_of found line ident) = field_of scopes.outer.types (place_of found) ident
     place_of (tree.buffer_of found line) = buffer_of scopes.outer.types (place_of found)
 

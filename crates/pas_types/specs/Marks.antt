@@ -64,7 +64,8 @@ abbrev pub unless : Bool → Wrong → List Wrong
 unless true refusal = []
 unless false refusal = refusal ∷ []
 
--- a part that was looked at: its marks, and what it means, which is unknown where a rule does not hold
+-- a part that was looked at: its marks, and what it means, if that is known. A part that breaks a rule may stay known
+-- by its type, so that each fault of its last token is seen
 pub record Judged (A : Type 0) : Type 0 where
   pub marks : Marks
   pub value : Option A

@@ -14,7 +14,7 @@ use Rattle.pas_types.specs.Marks.{checked, noted}
 use Rattle.pas_types.specs.Types.{range_of}
 use Rattle.pas_types.specs.Typed as typed
 use Rattle.pas_types.specs.Typed.{Mode, by_value, by_name, Variable, Heading, Body, local}
-use Rattle.pas_types.specs.Scopes.{Entity, routine, names_of, Known, Outer, Inner, entity_in}
+use Rattle.pas_types.specs.Scopes.{Entity, routine, names_of, KnownRoutine, Outer, Inner, entity_in}
 use Rattle.pas_types.specs.Scopes.{contains, spellings_of, new_names}
 use Rattle.pas_types.specs.TypeForms.{Made, maybe_quiet, type_named}
 use Rattle.pas_types.specs.Labels.{has_label, labels_in_list, labels_of_list}
@@ -35,7 +35,7 @@ type_in_heading outer inner (tree.type_named ident) =
     judged found.marks (known (λ what. record { type = what; table = outer.types }) found.value)
 type_in_heading outer inner (tree.no_type_name form) = judged quiet None
 
--- parameters of a routine so far: their marks, the scope behind them, and whether one of their types is unknown
+-- parameters of a routine so far: their marks, the scope behind them, and whether each of their types is known
 pub record Formal : Type 0 where
   pub marks : Marks
   pub inner : Inner
@@ -87,13 +87,13 @@ pub data Sort : Type 0 where
   function : Sort
 
 -- the parts of a heading
-pub record Head : Type 0 where
+pub record HeadingParts : Type 0 where
   pub sort : Sort
   pub name : Ident
   pub parameters : Option Parameters
   pub result : Option (Behind TypeName)
 
-abbrev pub head_of : tree.Heading → Head
+abbrev pub head_of : tree.Heading → HeadingParts
 head_of (tree.procedure line name parameters) =
     record { sort = procedure; name = name; parameters = parameters; result = None }
 head_of (tree.function line name parameters result) =
@@ -126,7 +126,7 @@ heading_by name function true parameters (Some result) =
 heading_by name sort is_clear parameters result = None
 
 -- a heading, with the semicolon behind it: its marks, the number of its routine, and the program's scope behind it
-pub record Headed : Type 0 where
+pub record HeadingStage : Type 0 where
   pub marks : Marks
   pub number : ℕ
   pub outer : Outer
@@ -138,7 +138,7 @@ with_routine name (Some heading) outer =
     with_name name (Some (routine (length outer.routines)))
     (record outer { routines = outer.routines ++ record { heading = heading; awaits_body = true } ∷ [] })
 
-abbrev pub first_heading : Outer → Head → Headed
+abbrev pub first_heading : Outer → HeadingParts → HeadingStage
 first_heading outer head =
     let number = length outer.routines in
     let formals = formals_of outer (new_inner number []) head.parameters in
@@ -159,7 +159,7 @@ abbrev pub more_than_name : Option Parameters → Option (Behind TypeName) → L
 more_than_name None None = []
 more_than_name parameters result = wrong WRONG_TYPE ∷ []
 
-abbrev pub second_heading : Outer → Head → ℕ → Headed
+abbrev pub second_heading : Outer → HeadingParts → ℕ → HeadingStage
 second_heading outer head number =
     let formals = formals_of outer (new_inner number []) head.parameters in
     let result = result_part outer formals.inner head.result in
@@ -177,7 +177,7 @@ abbrev pub is_of_sort : Sort → Heading → Bool
 is_of_sort function heading = is_some heading.result
 is_of_sort procedure heading = is_none heading.result
 
-abbrev pub awaited_known : Sort → ℕ → Known → Option ℕ
+abbrev pub awaited_known : Sort → ℕ → KnownRoutine → Option ℕ
 awaited_known sort number found =
     if found.awaits_body && is_of_sort sort found.heading then Some number else None
 
@@ -186,39 +186,39 @@ awaited_by outer sort (routine number) =
     option_and_then (awaited_known sort number) (slice_get outer.routines number)
 awaited_by outer sort entity = None
 
-abbrev pub awaited : Outer → Head → Option ℕ
+abbrev pub awaited : Outer → HeadingParts → Option ℕ
 awaited outer head = option_and_then (awaited_by outer head.sort) (entity_in outer.names head.name.name)
 
-abbrev pub headed_by : Outer → Head → Option ℕ → Headed
+abbrev pub headed_by : Outer → HeadingParts → Option ℕ → HeadingStage
 headed_by outer head None = first_heading outer head
 headed_by outer head (Some number) = second_heading outer head number
 
-abbrev pub headed : Outer → Head → Headed
+abbrev pub headed : Outer → HeadingParts → HeadingStage
 headed outer head = headed_by outer head (awaited outer head)
 
 -- blocks
 
 -- whether a statement gives the function its result
 abbrev mutual
-  pub sets_result : typed.Statement → Bool
-  sets_result (typed.sets_result type value) = true
-  sets_result (typed.compound list) = list_sets_result list
-  sets_result (typed.if_then test s) = sets_result s
-  sets_result (typed.if_else test s t) = sets_result s || sets_result t
-  sets_result (typed.case selector arms) = arm_sets_result arms
-  sets_result (typed.case_others selector arms s) = arm_sets_result arms || sets_result s
-  sets_result (typed.while test list) = list_sets_result list
-  sets_result (typed.repeat list test) = list_sets_result list
-  sets_result (typed.for slot way first last list) = list_sets_result list
-  sets_result other = false
+  pub gives_result : typed.Statement → Bool
+  gives_result (typed.sets_result type value) = true
+  gives_result (typed.compound list) = list_gives_result list
+  gives_result (typed.if_then test s) = gives_result s
+  gives_result (typed.if_else test s t) = gives_result s || gives_result t
+  gives_result (typed.case selector arms) = arm_gives_result arms
+  gives_result (typed.case_others selector arms s) = arm_gives_result arms || gives_result s
+  gives_result (typed.while test list) = list_gives_result list
+  gives_result (typed.repeat list test) = list_gives_result list
+  gives_result (typed.for slot way first last list) = list_gives_result list
+  gives_result other = false
 
-  pub list_sets_result : typed.Statements → Bool
-  list_sets_result (typed.one label s) = sets_result s
-  list_sets_result (typed.more list label s) = list_sets_result list || sets_result s
+  pub list_gives_result : typed.Statements → Bool
+  list_gives_result (typed.one label s) = gives_result s
+  list_gives_result (typed.more list label s) = list_gives_result list || gives_result s
 
-  pub arm_sets_result : typed.Arms → Bool
-  arm_sets_result (typed.one_arm values s) = sets_result s
-  arm_sets_result (typed.more_arms arms values s) = arm_sets_result arms || sets_result s
+  pub arm_gives_result : typed.Arms → Bool
+  arm_gives_result (typed.one_arm values s) = gives_result s
+  arm_gives_result (typed.more_arms arms values s) = arm_gives_result arms || gives_result s
 
 -- each label of the block stands in it
 abbrev pub all_stand : List ℕ → List ℕ → Bool
@@ -229,11 +229,11 @@ abbrev pub label_missing : List ℕ → Compound → List Wrong
 label_missing labels body = unless (all_stand (labels_in_list body.list) labels) (wrong WRONG_LABEL)
 
 abbrev pub result_missing : Sort → Option typed.Statements → List Wrong
-result_missing function (Some list) = unless (list_sets_result list) (wrong RESULT_NEVER_ASSIGNED)
+result_missing function (Some list) = unless (list_gives_result list) (wrong RESULT_NEVER_ASSIGNED)
 result_missing sort list = []
 
 -- the parameters of a known routine, as names in its scope
-abbrev pub parameters_known : Option Known → List Variable
+abbrev pub parameters_known : Option KnownRoutine → List Variable
 parameters_known None = []
 parameters_known (Some found) = found.heading.parameters
 
@@ -243,13 +243,13 @@ inner_of outer number labels =
     record { number = number; labels = labels; names = named_slots local 0 parameters; variables = parameters }
 
 -- a routine of which the body has come
-abbrev pub with_body : ℕ → List Known → List Known
+abbrev pub with_body : ℕ → List KnownRoutine → List KnownRoutine
 with_body number [] = []
 with_body zero (found ∷ routines) = record found { awaits_body = false } ∷ routines
 with_body (suc number) (found ∷ routines) = found ∷ with_body number routines
 
 -- what a routine shows, the program's scope behind it, and its body, where it has one
-pub record Routined : Type 0 where
+pub record RoutineStage : Type 0 where
   pub marks : Marks
   pub outer : Outer
   pub bodies : Option (List Body)
@@ -258,7 +258,7 @@ abbrev pub body_made : ℕ → List ℕ → Inner → typed.Statements → List 
 body_made number labels inner statements =
     record { routine = number; variables = inner.variables; labels = labels; statements = statements } ∷ []
 
-abbrev pub block_of : Headed → Sort → Option Labels → Option (Rows VariableRow) → Compound → Routined
+abbrev pub block_of : HeadingStage → Sort → Option Labels → Option (Rows VariableRow) → Compound → RoutineStage
 block_of found sort labels variables body =
     let numbers = declared_labels labels in
     let outer = record found.outer { routines = with_body found.number found.outer.routines } in
@@ -273,7 +273,7 @@ block_of found sort labels variables body =
     }
 
 -- `forward` behind a heading that is not the first one is refused
-abbrev pub routine_by : Headed → Sort → tree.Body → Routined
+abbrev pub routine_by : HeadingStage → Sort → tree.Body → RoutineStage
 routine_by found sort (tree.forward line) = record {
   marks = joined (found.marks ∷ shows (unless (not found.is_second) (wrong WRONG_TYPE)) ∷ quiet ∷ []);
   outer = found.outer;
@@ -281,11 +281,11 @@ routine_by found sort (tree.forward line) = record {
 }
 routine_by found sort (tree.block labels variables body) = block_of found sort labels variables body
 
-abbrev pub routine_of : Outer → Routine → Routined
+abbrev pub routine_of : Outer → Routine → RoutineStage
 routine_of outer found =
     let head = head_of found.heading in routine_by (headed outer head) head.sort found.body
 
-abbrev pub routines_of : Outer → List Routine → Routined
+abbrev pub routines_of : Outer → List Routine → RoutineStage
 routines_of outer [] = record { marks = no_token; outer = outer; bodies = Some [] }
 routines_of outer (first ∷ more) =
     let before = routine_of outer first in

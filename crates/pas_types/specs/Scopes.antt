@@ -42,12 +42,12 @@ abbrev pub names : List ℕ → Entity → Named
 names name entity = record { name = name; entity = entity }
 
 -- a routine as far as it is known, and whether its body is still to come
-pub record Known : Type 0 where
+pub record KnownRoutine : Type 0 where
   pub heading : Heading
   pub awaits_body : Bool
 
 -- the program's scope, with what goes with it: the names of its parameters, its labels and the one on its last
--- statement, the types made so far, its variables and routines
+-- statement, if that is empty, the types made so far, its variables and routines
 pub record Outer : Type 0 where
   pub parameters : List (List ℕ)
   pub labels : List ℕ
@@ -55,7 +55,7 @@ pub record Outer : Type 0 where
   pub types : Table
   pub names : List Named
   pub globals : List Variable
-  pub routines : List Known
+  pub routines : List KnownRoutine
 
 -- the scope of a routine with this number
 pub record Inner : Type 0 where
@@ -69,22 +69,34 @@ pub record Scopes : Type 0 where
   pub inner : Option Inner
 
 -- the names that lie outside
-abbrev pub required : List Named
-required =
+abbrev pub required_types : List Named
+required_types =
     names (codes "integer") (type (whole integer))
-    ∷ (names (codes "char") (type (whole char))
-    ∷ (names (codes "boolean") (type (whole boolean))
-    ∷ (names (codes "text") (type text)
-    ∷ (names (codes "false") (constant boolean (pos 0))
-    ∷ (names (codes "true") (constant boolean (pos 1))
-    ∷ (names (codes "maxint") (constant integer (pos GREATEST_NUMBER))
-    ∷ names (codes "ord") (function typed.ord)
+    ∷ names (codes "char") (type (whole char))
+    ∷ names (codes "boolean") (type (whole boolean))
+    ∷ names (codes "text") (type text)
+    ∷ []
+
+abbrev pub required_constants : List Named
+required_constants =
+    names (codes "false") (constant boolean (pos 0))
+    ∷ names (codes "true") (constant boolean (pos 1))
+    ∷ names (codes "maxint") (constant integer (pos GREATEST_NUMBER))
+    ∷ []
+
+abbrev pub required_functions : List Named
+required_functions =
+    names (codes "ord") (function typed.ord)
     ∷ names (codes "chr") (function typed.chr)
     ∷ names (codes "abs") (function typed.abs)
     ∷ names (codes "odd") (function typed.odd)
     ∷ names (codes "eof") (file_test typed.eof)
     ∷ names (codes "eoln") (file_test typed.eoln)
-    ∷ names (codes "reset") (file_step typed.reset)
+    ∷ []
+
+abbrev pub required_procedures : List Named
+required_procedures =
+    names (codes "reset") (file_step typed.reset)
     ∷ names (codes "rewrite") (file_step typed.rewrite)
     ∷ names (codes "get") (file_step typed.get)
     ∷ names (codes "put") (file_step typed.put)
@@ -93,7 +105,10 @@ required =
     ∷ names (codes "write") (procedure write)
     ∷ names (codes "writeln") (procedure writeln)
     ∷ names (codes "uexit") (procedure uexit)
-    ∷ []))))))
+    ∷ []
+
+abbrev pub required : List Named
+required = required_types ++ required_constants ++ required_functions ++ required_procedures
 
 -- what a name stands for in a list of names, if it is there
 abbrev pub entity_in : List Named → List ℕ → Option Entity

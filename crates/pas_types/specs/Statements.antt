@@ -13,7 +13,7 @@ use Rattle.pas_types.specs.Types.{Base, boolean, same_base, PasType, Table, rang
 use Rattle.pas_types.specs.Typed as typed
 use Rattle.pas_types.specs.Typed.{Mode, Slot, Value, Place, Arms}
 use Rattle.pas_types.specs.Scopes.{Entity, variable, routine, unclear, Inner, Scopes, entity_of}
-use Rattle.pas_types.specs.TypeForms.{Known, constant_of, maybe_quiet}
+use Rattle.pas_types.specs.TypeForms.{ConstantValue, constant_of, maybe_quiet}
 use Rattle.pas_types.specs.Expressions.{type_of, type_of_place, base_of, only, ordinal_only, is_file, compatible_with}
 use Rattle.pas_types.specs.Expressions.{heading_of, value_of, place_of}
 use Rattle.pas_types.specs.Labels.{Spot, in_list, elsewhere, label_faults, goto_of, labels_at, labels_in_list}
@@ -97,7 +97,7 @@ is_declared typed.declared = true
 is_declared mode = false
 
 abbrev pub counts : Table → Slot → Bool
-counts table slot = is_declared slot.variable.mode && is_some (range_of table slot.variable.type)
+counts table slot = is_declared slot.mode && is_some (range_of table slot.type)
 
 abbrev pub for_variable : Table → Option Entity → Judged Slot
 for_variable table None = refuses (wrong UNKNOWN_NAME)
@@ -107,7 +107,7 @@ for_variable table (Some entity) = refuses (wrong WRONG_TYPE)
 
 abbrev pub fits_slot : Table → Option Slot → Value → List Wrong
 fits_slot table None value = []
-fits_slot table (Some slot) value = compatible_with table slot.variable.type value
+fits_slot table (Some slot) value = compatible_with table slot.type value
 
 abbrev pub for_of : Table → Judged Slot → Way → Judged Value → Judged Value → Judged typed.Statement
     → Judged typed.Statement
@@ -132,7 +132,7 @@ abbrev pub has_value : List ℤ → ℤ → Bool
 has_value values value = list_any (is_same value) values
 
 -- a constant is of the selector's base, and was not there before
-abbrev pub fits_case : Option Base → List ℤ → Known → List Wrong
+abbrev pub fits_case : Option Base → List ℤ → ConstantValue → List Wrong
 fits_case None before found = []
 fits_case (Some base) before found =
     if same_base base found.base then unless (not (has_value before found.value)) (wrong DUPLICATE_NAME)
@@ -141,7 +141,7 @@ fits_case (Some base) before found =
 abbrev pub values_known : Judged (List ℤ) → List ℤ
 values_known part = unwrap_or part.value []
 
-abbrev pub with_constant : Marks → Option Base → List ℤ → Judged (List ℤ) → Judged Known → Judged (List ℤ)
+abbrev pub with_constant : Marks → Option Base → List ℤ → Judged (List ℤ) → Judged ConstantValue → Judged (List ℤ)
 with_constant separator base before constants next =
     let part = checked (fits_case base (before ++ values_known constants)) next in
     judged (joined (constants.marks ∷ separator ∷ part.marks ∷ []))
@@ -159,7 +159,7 @@ constants_of scopes base before constants =
     more_constants scopes base before
     (with_constant no_token base before (judged no_token (Some [])) (constant_of scopes constants.first)) constants.more
 
--- the constants of elements
+-- the values of the constants of elements, of whatever base
 abbrev pub constants_in : Scopes → Elements → List ℤ
 constants_in scopes (tree.first_element constants colon s) = values_known (constants_of scopes None [] constants)
 constants_in scopes (tree.more_elements elements line constants colon s) =
@@ -173,8 +173,8 @@ module _ (scopes : Scopes) where
   abbrev pub test_of : tree.Expr → Judged Value
   test_of expr = condition scopes.outer.types (value_of scopes expr)
 
-  abbrev pub label_marks : Spot → List ℕ → ℕ → Marks
-  label_marks spot before label = joined (shows (label_faults scopes spot before label) ∷ quiet ∷ [])
+  abbrev pub marks_of_label : Spot → List ℕ → ℕ → Marks
+  marks_of_label spot before label = joined (shows (label_faults scopes spot before label) ∷ quiet ∷ [])
 
   abbrev mutual
     pub plain_of : List ℕ → List ℕ → Plain → Judged typed.Statement
@@ -225,7 +225,7 @@ module _ (scopes : Scopes) where
     statement_of spot around before (tree.unlabelled s) = plain_of around before s
     statement_of spot around before (tree.labelled numeral colon s) =
         let found = plain_of around (before ++ numeral.value ∷ []) s in
-        judged (joined (label_marks spot before numeral.value ∷ found.marks ∷ [])) found.value
+        judged (joined (marks_of_label spot before numeral.value ∷ found.marks ∷ [])) found.value
 
     pub statements_of : List ℕ → List ℕ → Statements → Judged typed.Statements
     statements_of around before (tree.first_statement s) =

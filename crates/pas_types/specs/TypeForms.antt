@@ -30,11 +30,11 @@ maybe_quiet (Some token) = quiet
 -- constants
 
 -- the value of a constant
-pub record Known : Type 0 where
+pub record ConstantValue : Type 0 where
   pub base : Base
   pub value : ℤ
 
-abbrev pub known_value : Base → ℤ → Known
+abbrev pub known_value : Base → ℤ → ConstantValue
 known_value base value = record { base = base; value = value }
 
 -- the text of a string, in which each quote stands twice; it may begin behind the first quote of two
@@ -50,33 +50,33 @@ abbrev pub undoubled : List ℕ → List ℕ
 undoubled bytes = text_behind false bytes
 
 -- a string of one byte is a char; a longer one may stand only where something is written
-abbrev pub char_in : List ℕ → Judged Known
+abbrev pub char_in : List ℕ → Judged ConstantValue
 char_in (byte ∷ []) = means (known_value char (pos byte))
 char_in bytes = refuses (left_out STRINGS_OUTSIDE_WRITE)
 
 -- what a name is as a constant
-abbrev pub as_constant : Option Entity → Judged Known
+abbrev pub as_constant : Option Entity → Judged ConstantValue
 as_constant None = refuses (wrong UNKNOWN_NAME)
 as_constant (Some (constant base value)) = means (known_value base value)
 as_constant (Some unclear) = judged quiet None
 as_constant (Some entity) = refuses (wrong WRONG_TYPE)
 
 -- a constant behind a sign must be an integer
-abbrev pub integer_only : Known → List Wrong
+abbrev pub integer_only : ConstantValue → List Wrong
 integer_only found = unless (same_base found.base integer) (wrong WRONG_TYPE)
 
-abbrev pub with_sign : Sign → Known → Known
+abbrev pub with_sign : Sign → ConstantValue → ConstantValue
 with_sign sign.Plus found = found
 with_sign sign.Minus found = known_value found.base (neg_ℤ found.value)
 
-abbrev pub behind_sign : Option (Lined Sign) → Judged Known → Judged Known
+abbrev pub behind_sign : Option (Lined Sign) → Judged ConstantValue → Judged ConstantValue
 behind_sign None found = found
 behind_sign (Some lead) found =
     let number = checked integer_only found in
     judged (joined (quiet ∷ number.marks ∷ [])) (known (with_sign lead.item) number.value)
 
 -- const = ["+"|"-"] (number | id) | string
-abbrev pub constant_of : Scopes → Constant → Judged Known
+abbrev pub constant_of : Scopes → Constant → Judged ConstantValue
 constant_of scopes (tree.number lead numeral) = behind_sign lead (means (known_value integer (pos numeral.value)))
 constant_of scopes (tree.named lead ident) = behind_sign lead (as_constant (entity_of scopes ident.name))
 constant_of scopes (tree.text quoted) = char_in (undoubled quoted.text)
@@ -111,17 +111,17 @@ abbrev pub type_named : Scopes → Ident → Judged PasType
 type_named scopes ident = as_type ident.name (entity_of scopes ident.name)
 
 -- the bounds of a subrange: the second one is of the base of the first, and not below it
-abbrev pub fits_below : Option Known → Known → List Wrong
+abbrev pub fits_below : Option ConstantValue → ConstantValue → List Wrong
 fits_below None high = []
 fits_below (Some low) high =
     if same_base low.base high.base
     then unless (int_le low.value high.value) (wrong CONSTANT_OUT_OF_RANGE)
     else wrong WRONG_TYPE ∷ []
 
-abbrev pub range_between : Known → Known → Range
+abbrev pub range_between : ConstantValue → ConstantValue → Range
 range_between low high = record { base = low.base; low = low.value; high = high.value }
 
-abbrev pub subrange_of : Table → Judged Known → Judged Known → Judged Made
+abbrev pub subrange_of : Table → Judged ConstantValue → Judged ConstantValue → Judged Made
 subrange_of table low high =
     let upper = checked (fits_below low.value) high in
     judged (joined (low.marks ∷ quiet ∷ upper.marks ∷ []))
@@ -274,12 +274,12 @@ abbrev mutual
       let found = indexes_of scopes table indexes in
       array_of packed found (form_of scopes (table_of_indexes table found) element)
   form_of scopes table (tree.record_type packed line found semicolon end) =
-      record_of packed (fields_of scopes table found) semicolon
+      record_of packed (groups_of scopes table found) semicolon
   form_of scopes table (tree.file packed line of_line component) = file_of packed (form_of scopes table component)
 
-  pub fields_of : Scopes → Table → Fields → Judged Group
-  fields_of scopes table (tree.first_fields idents colon form) =
+  pub groups_of : Scopes → Table → Fields → Judged Group
+  groups_of scopes table (tree.first_fields idents colon form) =
       group_of no_token (no_fields table) [] idents (form_of scopes table form)
-  fields_of scopes table (tree.more_fields before line idents colon form) =
-      let found = fields_of scopes table before in
+  groups_of scopes table (tree.more_fields before line idents colon form) =
+      let found = groups_of scopes table before in
       group_of quiet found (field_names before) idents (form_of scopes (table_of_fields table found) form)

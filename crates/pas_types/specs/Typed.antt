@@ -24,19 +24,21 @@ pub record Variable : Type 0 where
   pub mode : Mode
   pub type : PasType
 
--- a variable with its home and its number there: parameters come before declared variables
+-- a variable by its home and its number there, where parameters come before declared variables
 pub record Slot : Type 0 where
   pub home : Home
   pub number : ℕ
-  pub variable : Variable
+  pub mode : Mode
+  pub type : PasType
 
--- the required functions of one ordinal argument, those that ask a file, and the steps of files
+-- the required functions of one ordinal argument
 pub data Function : Type 0 where
   ord : Function
   chr : Function
   abs : Function
   odd : Function
 
+-- the required functions that ask a file, and the steps of files
 pub data FileTest : Type 0 where
   eof : FileTest
   eoln : FileTest

@@ -47,12 +47,12 @@ pub data Structure : Type 0 where
   file : PasType → Structure
 
 -- a row of the table: what it is, and how many cells a variable of it has
-pub record TypeRow : Type 0 where
+pub record TableRow : Type 0 where
   pub structure : Structure
   pub cells : ℕ
 
 abbrev pub Table : Type 0
-Table = List TypeRow
+Table = List TableRow
 
 -- all values of a base
 abbrev pub all_of : Base → Range
@@ -61,7 +61,7 @@ all_of char = record { base = char; low = pos 0; high = pos 255 }
 all_of boolean = record { base = boolean; low = pos 0; high = pos 1 }
 
 -- the row of a type, and what it makes, if it has one
-abbrev pub row_of : Table → PasType → Option TypeRow
+abbrev pub row_of : Table → PasType → Option TableRow
 row_of table (row number) = slice_get table number
 row_of table type = None
 
@@ -87,15 +87,15 @@ component_of table text = Some (whole char)
 component_of table type = option_and_then component_in (structure_of table type)
 
 -- the range of the indexes of an array type, and the type of its elements
-pub record Elements : Type 0 where
+pub record ArrayParts : Type 0 where
   pub indexes : Range
   pub element : PasType
 
-abbrev pub elements_in : Structure → Option Elements
+abbrev pub elements_in : Structure → Option ArrayParts
 elements_in (array indexes element) = Some (record { indexes = indexes; element = element })
 elements_in structure = None
 
-abbrev pub elements_of : Table → PasType → Option Elements
+abbrev pub elements_of : Table → PasType → Option ArrayParts
 elements_of table type = option_and_then elements_in (structure_of table type)
 
 -- the fields of a record type

@@ -1,0 +1,5 @@
+mod OnwardLemmas
+mod GoesLemmas
+mod BoundLemmas
+mod DepthLemmas
+pub mod TrialLemmas
