@@ -1,9 +1,9 @@
 //! Assignments (ISO 7185, 6.8.2.2, in this project's profile).
 
 use crate::expressions::value_of;
-use crate::last_lines::{expr_line, variable_line};
+use crate::judged::Judged;
 use crate::scopes::{Entity, Scopes};
-use crate::stop::{Stop, demand, fault};
+use crate::stop::{Stop, fault};
 use crate::typed::{Place, Statement};
 use crate::types::PasType;
 use crate::variables::{place_of, whole};
@@ -34,13 +34,13 @@ pub(crate) fn assignment_of(
     assignment: &Assignment,
 ) -> Result<Statement, Stop> {
     let target = target_of(scopes, &assignment.target)?;
-    let is_file = scopes.types.is_file(target.pas_type());
-    demand(!is_file, WRONG_TYPE, variable_line(&assignment.target))?;
-    let value = value_of(scopes, &assignment.value)?;
+    let is_file = scopes.types.is_file(target.value.pas_type());
+    let target = target.noted(!is_file, WRONG_TYPE).before(assignment.becomes)?;
+    let found = value_of(scopes, &assignment.value)?;
     let is_fit = scopes
         .types
-        .are_compatible(target.pas_type(), value.pas_type());
-    demand(is_fit, WRONG_TYPE, expr_line(&assignment.value))?;
+        .are_compatible(target.pas_type(), found.value.pas_type());
+    let value = found.noted(is_fit, WRONG_TYPE).settled()?;
     let value = Boxed::new(scopes.alloc, value)?;
     match target {
         Target::Place(place) => { Ok(Statement::Assigns(Boxed::new(scopes.alloc, place)?, value)) }
@@ -52,12 +52,16 @@ pub(crate) fn assignment_of(
 }
 
 // What a variable means as a target, where a name by itself may be that of a function.
-fn target_of(scopes: &Scopes<'_>, variable: &Variable) -> Result<Target, Stop> {
+fn target_of(scopes: &Scopes<'_>, variable: &Variable) -> Result<Judged<Target>, Stop> {
     if variable.selectors.is_empty() {
-        target_named(scopes, variable.name)
-    } else {
-        Ok(Target::Place(place_of(scopes, variable)?))
+        let target = target_named(scopes, variable.name)?;
+        return Ok(Judged::lawful(target, variable.name.line));
     }
+    let place = place_of(scopes, variable)?;
+    Ok(Judged {
+        value: Target::Place(place.value),
+        end: place.end,
+    })
 }
 
 // What a name by itself means as a target.

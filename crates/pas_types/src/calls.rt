@@ -1,10 +1,10 @@
 //! Statements that call a procedure (ISO 7185, 6.8.2.3 and 6.9, in this project's profile).
 
 use crate::expressions::{only, value_of};
+use crate::judged::Judged;
 use crate::functions::{argument_of, file_only, one_too_many};
-use crate::last_lines::expr_line;
 use crate::scopes::{Entity, Procedure, Scopes};
-use crate::stop::{Stop, before, demand, fault};
+use crate::stop::{Stop, demand, fault};
 use crate::transfers::{read_alone, read_call, write_alone, write_call};
 use crate::typed::{FileStep, Heading, Passed, Statement, Value, Variable};
 use crate::types::Base;
@@ -167,26 +167,27 @@ fn step_with(
     step: FileStep,
     arguments: &Arguments,
 ) -> Result<Statement, Stop> {
-    let argument = &arguments.items.first;
-    let value = first_value(scopes, arguments)?;
-    let file = file_only(scopes, value, expr_line(&argument.value))?;
+    let found = first_value(scopes, arguments)?;
+    let file = file_only(scopes, found, line_behind_value(arguments, 0))?;
     nothing_more(scopes, arguments)?;
     Ok(Statement::Steps(step, file))
 }
 
 // What `uexit` means.
 fn halt_with(scopes: &Scopes<'_>, arguments: &Arguments) -> Result<Statement, Stop> {
-    let argument = &arguments.items.first;
-    let value = first_value(scopes, arguments)?;
-    only(scopes, Base::Integer, &value, expr_line(&argument.value))?;
+    let found = first_value(scopes, arguments)?;
+    let behind = line_behind_value(arguments, 0);
+    let value = only(scopes, Base::Integer, found).before(behind)?;
     nothing_more(scopes, arguments)?;
     Ok(Statement::Halts(Boxed::new(scopes.alloc, value)?))
 }
 
 // What the first of some arguments means.
-pub(crate) fn first_value(scopes: &Scopes<'_>, arguments: &Arguments) -> Result<Value, Stop> {
-    let behind = line_behind_value(arguments, 0);
-    before(behind, value_of(scopes, &arguments.items.first.value))
+pub(crate) fn first_value(
+    scopes: &Scopes<'_>,
+    arguments: &Arguments,
+) -> Result<Judged<Value>, Stop> {
+    value_of(scopes, &arguments.items.first.value)
 }
 
 // Refuses a width of the first argument, and a second one.

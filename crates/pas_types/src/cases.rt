@@ -2,7 +2,6 @@
 
 use crate::expressions::value_of;
 use crate::labels::Spot;
-use crate::last_lines::expr_line;
 use crate::scopes::Scopes;
 use crate::statements::statement_of;
 use crate::stop::{Stop, before, demand, fault};
@@ -49,10 +48,13 @@ pub(crate) fn case_of(
 
 // What the selector of a case means, which is ordinal, and its base.
 fn selector_of(scopes: &Scopes<'_>, guard: &Guard) -> Result<(Boxed<Value>, Base), Stop> {
-    let value = value_of(scopes, &guard.value)?;
-    match scopes.types.base_of(value.pas_type()) {
+    let found = value_of(scopes, &guard.value)?;
+    let line = found.end.line;
+    let base = scopes.types.base_of(found.value.pas_type());
+    let value = found.noted(base.is_some(), WRONG_TYPE).settled()?;
+    match base {
         Some(base) => Ok((Boxed::new(scopes.alloc, value)?, base)),
-        None => Err(fault(WRONG_TYPE, expr_line(&guard.value))),
+        None => Err(fault(WRONG_TYPE, line)),
     }
 }
 

@@ -104,7 +104,7 @@ fn files_of(scopes: &Scopes<'_>, parameters: &[Ident]) -> Result<Items<u32>, Sto
 fn file_of(scopes: &Scopes<'_>, entity: Entity, line: u32) -> Result<u32, Stop> {
     match entity {
         Entity::Variable(slot) => {
-            let is_lawful = scopes.types.is_lawful_file(slot.variable.pas_type);
+            let is_lawful = scopes.types.is_lawful_file(slot.pas_type);
             demand(is_lawful, FILE_RULE, line)?;
             Ok(slot.number)
         }

@@ -2,8 +2,9 @@
 
 use crate::limits::{CELL_LIMIT, ROUTINE_CELL_LIMIT};
 use crate::scopes::{Entity, Inner, Names, Scopes, idents_of};
-use crate::stop::{Stop, demand};
-use crate::type_forms::{Formed, constant_of, form_of};
+use crate::stop::{Stop, count_of, demand};
+use crate::judged::Judged;
+use crate::type_forms::{constant_of, form_of};
 use crate::typed::{Home, Mode, Slot, Variable};
 use crate::types::PasType;
 use indexmap::IndexSet;
@@ -76,11 +77,10 @@ pub(crate) fn types_of(scopes: &mut Scopes<'_>, rows: Option<&Rows<TypeRow>>) ->
 // Declares a type.
 fn type_row(scopes: &mut Scopes<'_>, row: &TypeRow) -> Result<(), Stop> {
     scopes.note(new_name(scopes, row.name))?;
-    let formed = form_of(scopes, &row.form);
-    let entity = match formed {
-        Ok(formed) => {
-            scopes.note(formed.refused())?;
-            Entity::Type(formed.pas_type)
+    let entity = match form_of(scopes, &row.form) {
+        Ok(made) => {
+            scopes.note(made.end.stands())?;
+            Entity::Type(made.value)
         }
         Err(stop) => clear(scopes, Err(stop))?,
     };
@@ -107,12 +107,12 @@ fn global_row(scopes: &mut Scopes<'_>, row: &VariableRow) -> Result<(), Stop> {
     let are_new = new_names(scopes, idents.as_slice());
     scopes.note(are_new)?;
     match form_of(scopes, &row.form) {
-        Ok(formed) => {
-            add_cells(scopes, formed.pas_type, idents.len());
-            let formed = global_only(scopes, idents.as_slice(), formed);
-            scopes.note(formed.refused())?;
+        Ok(made) => {
+            add_cells(scopes, made.value, idents.len());
+            let made = global_only(scopes, idents.as_slice(), made);
+            scopes.note(made.end.stands())?;
             for ident in idents.as_slice() {
-                add_global(scopes, scopes.spelling(ident.span), formed.pas_type)?;
+                add_global(scopes, scopes.spelling(ident.span), made.value)?;
             }
         }
         Err(stop) => {
@@ -143,13 +143,16 @@ fn add_cells(scopes: &mut Scopes<'_>, pas_type: PasType, count: usize) {
 }
 
 // Variables of the program of a file type are its parameters, and all its variables have no more cells than the limit.
-fn global_only(scopes: &Scopes<'_>, idents: &[Ident], formed: Formed) -> Formed {
+fn global_only(
+    scopes: &Scopes<'_>,
+    idents: &[Ident],
+    made: Judged<PasType>,
+) -> Judged<PasType> {
     let are_parameters = idents.iter().all(|ident| scopes
         .parameters
         .contains(scopes.spelling(ident.span)));
-    let is_file = scopes.types.is_file(formed.pas_type);
-    formed
-        .noted(!is_file || are_parameters, FILE_RULE)
+    let is_file = scopes.types.is_file(made.value);
+    made.noted(!is_file || are_parameters, FILE_RULE)
         .noted(scopes.cells <= u64::from(CELL_LIMIT), TOO_LARGE)
 }
 
@@ -159,7 +162,7 @@ pub(crate) fn add_global<'p>(
     name: &'p [u8],
     pas_type: PasType,
 ) -> Result<(), Stop> {
-    let number = scopes.globals.len() as u32;
+    let number = count_of(scopes.globals.len())?;
     let variable = Variable {
         name: scopes.keep(name)?,
         mode: Mode::Declared,
@@ -169,7 +172,8 @@ pub(crate) fn add_global<'p>(
     let slot = Slot {
         home: Home::Global,
         number,
-        variable,
+        mode: Mode::Declared,
+        pas_type,
     };
     Ok(scopes.declare(name, Entity::Variable(slot))?)
 }
@@ -192,8 +196,8 @@ pub(crate) fn locals_of(
 fn local_row(scopes: &mut Scopes<'_>, row: &VariableRow) -> Result<(), Stop> {
     let idents = idents_of(scopes.alloc, &row.names)?;
     new_local_names(scopes, idents.as_slice())?;
-    let formed = form_of(scopes, &row.form)?;
-    add_locals(scopes, idents.as_slice(), Mode::Declared, formed)
+    let made = form_of(scopes, &row.form)?;
+    add_locals(scopes, idents.as_slice(), Mode::Declared, made)
 }
 
 // Refuses names that are declared in the routine, or stand twice.
@@ -213,20 +217,20 @@ pub(crate) fn add_locals(
     scopes: &mut Scopes<'_>,
     idents: &[Ident],
     mode: Mode,
-    formed: Formed,
+    made: Judged<PasType>,
 ) -> Result<(), Stop> {
     let cells = match mode {
         Mode::ByName => 1,
-        _ => scopes.types.cells_of(formed.pas_type),
+        _ => scopes.types.cells_of(made.value),
     };
     let cells = scopes.add_local_cells(cells.saturating_mul(idents.len() as u64));
-    let is_file = scopes.types.is_file(formed.pas_type);
-    formed
+    let is_file = scopes.types.is_file(made.value);
+    let pas_type = made
         .noted(!is_file || mode == Mode::ByName, FILE_RULE)
         .noted(cells <= u64::from(ROUTINE_CELL_LIMIT), TOO_LARGE)
-        .refused()?;
+        .settled()?;
     for ident in idents {
-        add_local(scopes, scopes.spelling(ident.span), mode, formed.pas_type)?;
+        add_local(scopes, scopes.spelling(ident.span), mode, pas_type)?;
     }
     Ok(())
 }
@@ -246,8 +250,9 @@ fn add_local<'p>(
     if let Some(inner) = &mut scopes.inner {
         let slot = Slot {
             home: Home::Local,
-            number: inner.variables.len() as u32,
-            variable,
+            number: count_of(inner.variables.len())?,
+            mode,
+            pas_type,
         };
         inner.variables.push(variable)?;
         inner.names.insert(name, Entity::Variable(slot))?;

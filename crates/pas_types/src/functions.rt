@@ -1,9 +1,9 @@
 //! Calls of functions (ISO 7185, 6.7.3, in this project's profile).
 
 use crate::expressions::value_of;
-use crate::last_lines::expr_line;
+use crate::judged::{End, Judged};
 use crate::scopes::{Entity, Scopes};
-use crate::stop::{Stop, before, demand, fault};
+use crate::stop::{Stop, demand, fault};
 use crate::type_forms::char_of;
 use crate::typed::{Call, FileTest, Function, Heading, Mode, Passed, Place, Value, Variable};
 use crate::types::{Base, PasType};
@@ -12,56 +12,87 @@ use pas_syntax::tree::{Expr, Exprs, Factor, FunctionCall, Ident, Sum, Term};
 use sqlite_items::{Boxed, Items};
 use wb_base::faults::{FILE_RULE, UNKNOWN_NAME, WRONG_TYPE};
 
-// What the name of a routine means as a value: the call of a function that takes no arguments.
-pub(crate) fn call_alone(scopes: &Scopes<'_>, ident: Ident, number: u32) -> Result<Value, Stop> {
+// What the name of a routine means as a value: the call of a function that takes no arguments. One that takes some shows
+// it at the token behind, and stays known by its type.
+pub(crate) fn function_alone(
+    scopes: &Scopes<'_>,
+    ident: Ident,
+    number: u32,
+) -> Result<Judged<Value>, Stop> {
     match scopes.heading_of(number) {
-        Some(heading) => match heading.result {
-            Some(_) if !heading.parameters.is_empty() => Err(Stop::Missing),
-            Some(pas_type) => {
-                let call = Call {
-                    routine: number,
-                    pas_type,
-                    passed: Items::new(scopes.alloc),
-                };
-                Ok(Value::Call(Boxed::new(scopes.alloc, call)?))
-            }
-            None => Err(fault(WRONG_TYPE, ident.line)),
-        },
-        None => Err(fault(WRONG_TYPE, ident.line)),
+        Some(Heading {
+            result: Some(pas_type),
+            parameters,
+            ..
+        }) => {
+            let call = Call {
+                routine: number,
+                pas_type: *pas_type,
+                passed: Items::new(scopes.alloc),
+            };
+            let end = End::lawful(ident.line);
+            Ok(Judged {
+                value: Value::Call(Boxed::new(scopes.alloc, call)?),
+                end: if parameters.is_empty() { end } else { end.short() },
+            })
+        }
+        _ => Err(fault(WRONG_TYPE, ident.line)),
     }
 }
 
-// What a question to `input` means.
-pub(crate) fn test_alone(scopes: &Scopes<'_>, ident: Ident, test: FileTest) -> Result<Value, Stop> {
+// What the name of a required function in this line means, which shows at the token behind that its argument is missing.
+pub(crate) fn missing_arguments(function: Function, line: u32) -> Judged<Value> {
+    let base = match function {
+        Function::Ord | Function::Abs => Base::Integer,
+        Function::Chr => Base::Char,
+        Function::Odd => Base::Boolean,
+    };
+    Judged {
+        value: Value::Constant(base, 0),
+        end: End::lawful(line).short(),
+    }
+}
+
+// What a question to `input` means. Where that is no parameter of the program, it stays known as a boolean.
+pub(crate) fn test_alone(
+    scopes: &Scopes<'_>,
+    ident: Ident,
+    test: FileTest,
+) -> Result<Judged<Value>, Stop> {
     match scopes.standard_file(b"input") {
-        Some(slot) => { Ok(Value::Tested(test, Boxed::new(scopes.alloc, whole(scopes, slot))?)) }
-        None => Err(fault(FILE_RULE, ident.line)),
+        Some(slot) => {
+            let file = Boxed::new(scopes.alloc, whole(scopes, slot))?;
+            Ok(Judged::lawful(Value::Tested(test, file), ident.line))
+        }
+        None => {
+            let unknown = Judged::lawful(Value::Constant(Base::Boolean, 0), ident.line);
+            Ok(unknown.noted(false, FILE_RULE))
+        }
     }
 }
 
 // What the call of a function with arguments means.
 #[cycle(expression)]
-pub(crate) fn called(scopes: &Scopes<'_>, call: &FunctionCall) -> Result<Value, Stop> {
-    match scopes.named(call.name) {
-        Some(Entity::Routine(number)) => routine_called(scopes, call, number),
-        Some(Entity::Function(function)) => applied(scopes, call, function),
-        Some(Entity::FileTest(test)) => tested(scopes, call, test),
-        Some(_) => Err(fault(WRONG_TYPE, call.name.line)),
-        None => Err(fault(UNKNOWN_NAME, call.name.line)),
-    }
+pub(crate) fn called(scopes: &Scopes<'_>, call: &FunctionCall) -> Result<Judged<Value>, Stop> {
+    let value = match scopes.named(call.name) {
+        Some(Entity::Routine(number)) => routine_called(scopes, call, number)?,
+        Some(Entity::Function(function)) => applied(scopes, call, function)?,
+        Some(Entity::FileTest(test)) => tested(scopes, call, test)?,
+        Some(_) => return Err(fault(WRONG_TYPE, call.name.line)),
+        None => return Err(fault(UNKNOWN_NAME, call.name.line)),
+    };
+    Ok(Judged::lawful(value, call.closed))
 }
 
 // What the call of a declared function with arguments means.
 #[cycle(expression)]
 fn routine_called(scopes: &Scopes<'_>, call: &FunctionCall, number: u32) -> Result<Value, Stop> {
     match scopes.heading_of(number) {
-        Some(
-            Heading {
-                result: Some(pas_type),
-                parameters,
-                ..
-            },
-        ) => {
+        Some(Heading {
+            result: Some(pas_type),
+            parameters,
+            ..
+        }) => {
             let call = Call {
                 routine: number,
                 pas_type: *pas_type,
@@ -86,7 +117,8 @@ fn passed_to(
     passed.push(argument_of(scopes, parameters.first(), &arguments.first, behind)?)?;
     for (index, more) in arguments.more.as_slice().iter().enumerate() {
         let behind = line_behind(arguments, index + 1, closed);
-        passed.push(argument_of(scopes, parameters.get(index + 1), &more.value, behind)?)?;
+        let parameter = parameters.get(index + 1);
+        passed.push(argument_of(scopes, parameter, &more.value, behind)?)?;
     }
     demand(parameters.len() <= passed.len(), WRONG_TYPE, closed)?;
     Ok(passed)
@@ -103,50 +135,54 @@ pub(crate) fn argument_of(
 ) -> Result<Passed, Stop> {
     match parameter {
         Some(parameter) => {
-            let value = before(behind, value_of(scopes, expr))?;
-            passed_by(scopes, *parameter, value, expr_line(expr))
+            let found = value_of(scopes, expr)?;
+            passed_by(scopes, *parameter, found, behind)
         }
         None => Err(one_too_many(scopes, expr)),
     }
 }
 
-// A value of which the last token stands in this line as it is passed: a variable parameter takes a variable of its
-// type that is no buffer of a file, another one a compatible value.
+// A value as it is passed, where the token behind it stands in this line.
 fn passed_by(
     scopes: &Scopes<'_>,
     parameter: Variable,
-    value: Value,
-    line: u32,
+    found: Judged<Value>,
+    behind: u32,
 ) -> Result<Passed, Stop> {
+    let is_fit = fits_parameter(scopes, parameter, &found.value);
+    let value = found.noted(is_fit, WRONG_TYPE).before(behind)?;
+    match (parameter.mode, value) {
+        (Mode::ByName, Value::Read(place)) => Ok(Passed::Reference(place.into_inner())),
+        (_, value) => Ok(Passed::Value(parameter.pas_type, value)),
+    }
+}
+
+// Whether a value may be passed: a variable parameter takes a variable of its type that is no buffer of a file, another
+// one a compatible value.
+fn fits_parameter(scopes: &Scopes<'_>, parameter: Variable, value: &Value) -> bool {
     match (parameter.mode, value) {
         (Mode::ByName, Value::Read(place)) => {
-            let place = place.into_inner();
-            let is_same = place.pas_type() == parameter.pas_type;
-            demand(is_same && !place.is_buffer(), WRONG_TYPE, line)?;
-            Ok(Passed::Reference(place))
+            let place = place.get();
+            place.pas_type() == parameter.pas_type && !place.is_buffer()
         }
-        (Mode::ByName, _) => Err(fault(WRONG_TYPE, line)),
-        (_, value) => {
-            let is_fit = scopes
-                .types
-                .are_compatible(parameter.pas_type, value.pas_type());
-            demand(is_fit, WRONG_TYPE, line)?;
-            Ok(Passed::Value(parameter.pas_type, value))
-        }
+        (Mode::ByName, _) => false,
+        _ => scopes.types.are_compatible(parameter.pas_type, value.pas_type()),
     }
+}
+
+// What the first argument of a call means.
+#[cycle(expression)]
+fn first_value(scopes: &Scopes<'_>, call: &FunctionCall) -> Result<Judged<Value>, Stop> {
+    value_of(scopes, &call.arguments.first)
 }
 
 // What a required function of its one argument means.
 #[cycle(expression)]
 fn applied(scopes: &Scopes<'_>, call: &FunctionCall, function: Function) -> Result<Value, Stop> {
-    let first = &call.arguments.first;
+    let found = first_value(scopes, call)?;
+    let is_fit = takes(scopes, function, found.value.pas_type());
     let behind = line_behind(&call.arguments, 0, call.closed);
-    let value = before(behind, value_of(scopes, first))?;
-    demand(
-        takes(scopes, function, value.pas_type()),
-        WRONG_TYPE,
-        expr_line(first),
-    )?;
+    let value = found.noted(is_fit, WRONG_TYPE).before(behind)?;
     nothing_more(scopes, &call.arguments)?;
     Ok(Value::Applied(function, Boxed::new(scopes.alloc, value)?))
 }
@@ -162,27 +198,37 @@ fn takes(scopes: &Scopes<'_>, function: Function, pas_type: PasType) -> bool {
 // What a question to a file means.
 #[cycle(expression)]
 fn tested(scopes: &Scopes<'_>, call: &FunctionCall, test: FileTest) -> Result<Value, Stop> {
-    let first = &call.arguments.first;
-    let behind = line_behind(&call.arguments, 0, call.closed);
-    let value = before(behind, value_of(scopes, first))?;
-    let file = file_only(scopes, value, expr_line(first))?;
+    let found = first_value(scopes, call)?;
     let is_fit = match test {
         FileTest::Eof => true,
-        FileTest::Eoln => file.get().pas_type() == PasType::Text,
+        FileTest::Eoln => {
+            !is_file(scopes, &found.value) || found.value.pas_type() == PasType::Text
+        }
     };
-    demand(is_fit, FILE_RULE, expr_line(first))?;
+    let behind = line_behind(&call.arguments, 0, call.closed);
+    let file = file_only(scopes, found.noted(is_fit, FILE_RULE), behind)?;
     nothing_more(scopes, &call.arguments)?;
     Ok(Value::Tested(test, file))
 }
 
-// The file that a value is of which the last token stands in this line.
+// Whether a value is a file.
+pub(crate) fn is_file(scopes: &Scopes<'_>, value: &Value) -> bool {
+    match value {
+        Value::Read(place) => scopes.types.is_file(place.get().pas_type()),
+        _ => false,
+    }
+}
+
+// The file that a value is, where the token behind it stands in this line.
 pub(crate) fn file_only(
     scopes: &Scopes<'_>,
-    value: Value,
-    line: u32,
+    found: Judged<Value>,
+    behind: u32,
 ) -> Result<Boxed<Place>, Stop> {
-    match value {
-        Value::Read(place) if scopes.types.is_file(place.get().pas_type()) => Ok(place),
+    let line = found.end.line;
+    let is_fit = is_file(scopes, &found.value);
+    match found.noted(is_fit, WRONG_TYPE).before(behind)? {
+        Value::Read(place) => Ok(place),
         _ => Err(fault(WRONG_TYPE, line)),
     }
 }

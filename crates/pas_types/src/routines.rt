@@ -3,7 +3,7 @@
 use crate::declarations::{add_locals, is_taken, locals_of, new_local_names};
 use crate::labels::Labels;
 use crate::limits::ROUTINE_LIMIT;
-use crate::scopes::{Entity, Inner, Known, Scopes, idents_of};
+use crate::scopes::{Entity, Inner, KnownRoutine, Scopes, idents_of};
 use crate::statements::statements_of;
 use crate::stop::{Stop, before, demand, fault};
 use crate::type_forms::type_named;
@@ -21,7 +21,7 @@ enum Sort {
 
 // The parts of a heading, and the line of the semicolon behind it.
 #[derive(Clone, Copy)]
-struct Head<'t> {
+struct HeadingParts<'t> {
     sort: Sort,
     name: Ident,
     parameters: Option<&'t Parameters>,
@@ -30,17 +30,17 @@ struct Head<'t> {
 }
 
 // The parts of the heading of a routine.
-fn head_of(routine: &Routine) -> Head<'_> {
+fn head_of(routine: &Routine) -> HeadingParts<'_> {
     let end = routine.behind_heading;
     match &routine.heading {
-        Heading::Procedure(_, name, parameters) => Head {
+        Heading::Procedure(_, name, parameters) => HeadingParts {
             sort: Sort::Procedure,
             name: *name,
             parameters: parameters.as_ref(),
             result: None,
             end,
         },
-        Heading::Function(_, name, parameters, result) => Head {
+        Heading::Function(_, name, parameters, result) => HeadingParts {
             sort: Sort::Function,
             name: *name,
             parameters: parameters.as_ref(),
@@ -92,7 +92,7 @@ fn routine_of(scopes: &mut Scopes<'_>, routine: &Routine) -> Result<Option<Typed
 }
 
 // The number of the routine of this sort that the name of a heading stands for, if its body is still to come.
-fn awaited(scopes: &Scopes<'_>, head: &Head<'_>) -> Option<u32> {
+fn awaited(scopes: &Scopes<'_>, head: &HeadingParts<'_>) -> Option<u32> {
     match scopes.names.get(scopes.spelling(head.name.span)) {
         Some(Entity::Routine(number)) => {
             let known = scopes.routines.get(*number as usize)?;
@@ -109,7 +109,7 @@ fn awaited(scopes: &Scopes<'_>, head: &Head<'_>) -> Option<u32> {
 }
 
 // Refuses more than the name in a heading behind its forward heading.
-fn name_alone(head: &Head<'_>) -> Result<(), Stop> {
+fn name_alone(head: &HeadingParts<'_>) -> Result<(), Stop> {
     match (head.parameters, head.result) {
         (Some(parameters), _) => Err(fault(WRONG_TYPE, parameters.opened)),
         (None, Some(result)) => Err(fault(WRONG_TYPE, result.line)),
@@ -118,7 +118,7 @@ fn name_alone(head: &Head<'_>) -> Result<(), Stop> {
 }
 
 // Declares the routine of a heading, and tells its number.
-fn first_heading(scopes: &mut Scopes<'_>, head: &Head<'_>) -> Result<u32, Stop> {
+fn first_heading(scopes: &mut Scopes<'_>, head: &HeadingParts<'_>) -> Result<u32, Stop> {
     let name = scopes.spelling(head.name.span);
     let count = scopes.routines.len();
     demand(!is_taken(scopes, name), DUPLICATE_NAME, head.name.line)?;
@@ -133,7 +133,7 @@ fn first_heading(scopes: &mut Scopes<'_>, head: &Head<'_>) -> Result<u32, Stop> 
         result,
         parameters: parameters_in(scopes, &awaited)?,
     };
-    scopes.routines.push(Known { heading, awaited })?;
+    scopes.routines.push(KnownRoutine { heading, awaited })?;
     scopes.declare(name, Entity::Routine(number))?;
     Ok(number)
 }
@@ -164,22 +164,21 @@ fn formals_of(scopes: &mut Scopes<'_>, parameters: Option<&Parameters>) -> Resul
 fn formal_of(scopes: &mut Scopes<'_>, parameter: &Parameter) -> Result<(), Stop> {
     let idents = idents_of(scopes.alloc, &parameter.names)?;
     new_local_names(scopes, idents.as_slice())?;
-    let formed = type_named(scopes, parameter.type_name)?;
+    let found = type_named(scopes, parameter.type_name)?;
     let mode = match parameter.by_name {
         Some(_) => Mode::ByName,
         None => Mode::ByValue,
     };
-    add_locals(scopes, idents.as_slice(), mode, formed)
+    add_locals(scopes, idents.as_slice(), mode, found)
 }
 
 // The type of the result of a function, which is ordinal. One that is missing shows it at the semicolon.
-fn result_of(scopes: &Scopes<'_>, head: &Head<'_>) -> Result<Option<PasType>, Stop> {
+fn result_of(scopes: &Scopes<'_>, head: &HeadingParts<'_>) -> Result<Option<PasType>, Stop> {
     match (head.sort, head.result) {
         (_, Some(result)) => {
-            let formed = type_named(scopes, result.item)?;
-            let is_ordinal = scopes.types.range_of(formed.pas_type).is_some();
-            demand(is_ordinal, WRONG_TYPE, formed.line)?;
-            Ok(Some(formed.pas_type))
+            let found = type_named(scopes, result.item)?;
+            let is_ordinal = scopes.types.range_of(found.value).is_some();
+            Ok(Some(found.noted(is_ordinal, WRONG_TYPE).settled()?))
         }
         (Sort::Function, None) => Err(fault(WRONG_TYPE, head.end)),
         (Sort::Procedure, None) => Ok(None),

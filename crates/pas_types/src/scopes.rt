@@ -1,7 +1,7 @@
 //! Scopes (ISO 7185, 6.2): the required names lie outside the program's scope, and that outside each routine's.
 
 use crate::labels::Labels;
-use crate::stop::Stop;
+use crate::stop::{Stop, count_of};
 use crate::typed::{FileStep, FileTest, Function, Heading, Home, Part, Slot, Variable};
 use crate::types::{Base, PasType, Table};
 use indexmap::{IndexMap, IndexSet};
@@ -43,7 +43,7 @@ pub(crate) type FieldNames<'p> = IndexSet<&'p [u8]>;
 
 // A routine as far as it is known, and the scope that its heading makes, while its body is still to come.
 #[derive(Drop)]
-pub(crate) struct Known<'p> {
+pub(crate) struct KnownRoutine<'p> {
     pub(crate) heading: Heading,
     pub(crate) awaited: Option<Inner<'p>>,
 }
@@ -93,7 +93,7 @@ pub(crate) struct Scopes<'p> {
     pub(crate) globals: Items<Variable>,
     // How many cells the globals have.
     pub(crate) cells: u64,
-    pub(crate) routines: Vec<Known<'p>>,
+    pub(crate) routines: Vec<KnownRoutine<'p>>,
     pub(crate) labels: Labels,
     // The label on the last statement of the program, if that is empty.
     pub(crate) last_label: Option<u32>,
@@ -131,8 +131,8 @@ impl<'p> Scopes<'p> {
 
     // Keeps a spelling.
     pub(crate) fn keep(&mut self, spelling: &[u8]) -> Result<Span, OutOfMemory> {
-        let first = u32::try_from(self.kept.bytes().len()).map_err(|_| OutOfMemory)?;
-        let count = u32::try_from(spelling.len()).map_err(|_| OutOfMemory)?;
+        let first = count_of(self.kept.bytes().len())?;
+        let count = count_of(spelling.len())?;
         self.kept.push_all(spelling)?;
         Ok(Span { first, count })
     }
@@ -176,9 +176,10 @@ impl<'p> Scopes<'p> {
 
     // The field with this name of a record of this type.
     pub(crate) fn field_named(&self, pas_type: PasType, ident: Ident) -> Option<Part> {
-        let number = self.field_number(pas_type, self.spelling(ident.span))?;
-        let field = self.types.fields_of(pas_type)?.get(number)?;
-        Some(Part::Field(number as u32, field.pas_type))
+        let index = self.field_number(pas_type, self.spelling(ident.span))?;
+        let field = self.types.fields_of(pas_type)?.get(index)?;
+        let number = u32::try_from(index).ok()?;
+        Some(Part::Field(number, field.pas_type))
     }
 
     // The number of the field with this name of a record of this type.

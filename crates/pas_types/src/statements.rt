@@ -5,7 +5,6 @@ use crate::calls::call_of;
 use crate::cases::case_of;
 use crate::expressions::{only, value_of};
 use crate::labels::{Spot, goto_of};
-use crate::last_lines::expr_line;
 use crate::scopes::{Entity, Scopes};
 use crate::stop::{Stop, before, demand, fault, maybe_before};
 use crate::typed::{Counted, Labelled, Mode, Slot, Statement, Statements, Value};
@@ -136,8 +135,8 @@ fn test_of(scopes: &Scopes<'_>, guard: &Guard) -> Result<Boxed<Value>, Stop> {
 
 // What a test means, which is a boolean.
 fn condition(scopes: &Scopes<'_>, expr: &Expr) -> Result<Boxed<Value>, Stop> {
-    let value = value_of(scopes, expr)?;
-    only(scopes, Base::Boolean, &value, expr_line(expr))?;
+    let found = value_of(scopes, expr)?;
+    let value = only(scopes, Base::Boolean, found).settled()?;
     Ok(Boxed::new(scopes.alloc, value)?)
 }
 
@@ -173,8 +172,8 @@ fn counted_of(scopes: &Scopes<'_>, head: &ForHead) -> Result<Counted, Stop> {
 fn counter_named(scopes: &Scopes<'_>, ident: Ident) -> Result<Slot, Stop> {
     match scopes.named(ident) {
         Some(Entity::Variable(slot)) => {
-            let is_ordinal = scopes.types.range_of(slot.variable.pas_type).is_some();
-            let counts = slot.variable.mode == Mode::Declared && is_ordinal;
+            let is_ordinal = scopes.types.range_of(slot.pas_type).is_some();
+            let counts = slot.mode == Mode::Declared && is_ordinal;
             demand(counts, WRONG_TYPE, ident.line)?;
             Ok(slot)
         }
@@ -185,10 +184,9 @@ fn counter_named(scopes: &Scopes<'_>, ident: Ident) -> Result<Slot, Stop> {
 
 // What a limit of a `for` means, which is compatible with the variable.
 fn limit_of(scopes: &Scopes<'_>, slot: Slot, expr: &Expr) -> Result<Value, Stop> {
-    let value = value_of(scopes, expr)?;
+    let found = value_of(scopes, expr)?;
     let is_fit = scopes
         .types
-        .are_compatible(slot.variable.pas_type, value.pas_type());
-    demand(is_fit, WRONG_TYPE, expr_line(expr))?;
-    Ok(value)
+        .are_compatible(slot.pas_type, found.value.pas_type());
+    found.noted(is_fit, WRONG_TYPE).settled()
 }

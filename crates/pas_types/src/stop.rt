@@ -41,24 +41,42 @@ pub(crate) fn maybe_before<T>(line: Option<u32>, found: Result<T, Stop>) -> Resu
     }
 }
 
-// A token in this line shows this fault.
-pub(crate) fn fault(code: u16, line: u32) -> Stop {
+// What is wrong with a token: a fault, and of what is left out which part.
+#[derive(Clone, Copy)]
+pub(crate) struct Wrong {
+    pub(crate) code: u16,
+    pub(crate) which: u8,
+}
+
+// A token in this line shows what is wrong with it.
+pub(crate) fn shown(wrong: Wrong, line: u32) -> Stop {
     Stop::Fault(Fault {
-        code,
+        code: wrong.code,
         file: FileTag::Pas,
         line,
-        which: 0,
+        which: wrong.which,
     })
+}
+
+// A token in this line shows this fault.
+pub(crate) fn fault(code: u16, line: u32) -> Stop {
+    shown(Wrong { code, which: 0 }, line)
 }
 
 // A token in this line shows a part of Pascal that is left out.
 pub(crate) fn left_out(which: u8, line: u32) -> Stop {
-    Stop::Fault(Fault {
-        code: PASCAL_LEFT_OUT,
-        file: FileTag::Pas,
+    shown(
+        Wrong {
+            code: PASCAL_LEFT_OUT,
+            which,
+        },
         line,
-        which,
-    })
+    )
+}
+
+// A count as a number of 32 bits; more than fit are more than there is memory for.
+pub(crate) fn count_of(count: usize) -> Result<u32, OutOfMemory> {
+    u32::try_from(count).map_err(|_| OutOfMemory)
 }
 
 // Refuses what does not hold by this fault of a token in this line.

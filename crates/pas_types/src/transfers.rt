@@ -2,16 +2,16 @@
 
 use crate::calls::{Extent, argument_at, first_value, line_behind, line_behind_value, no_width};
 use crate::expressions::{only, value_of};
-use crate::last_lines::expr_line;
+use crate::judged::Judged;
 use crate::scopes::Scopes;
-use crate::stop::{Stop, before, demand, fault, left_out};
+use crate::stop::{Stop, Wrong, demand, fault};
 use crate::typed::{Item, Place, Slot, Statement, Value};
 use crate::types::{Base, PasType};
 use crate::variables::whole;
 use pas_syntax::tree::{Argument, Arguments, Expr, Factor, Sum, Term};
 use sqlite_items::{Boxed, Items};
 use wb_base::Text;
-use wb_base::faults::{FILE_RULE, READING_NUMBERS, WRONG_TYPE};
+use wb_base::faults::{FILE_RULE, PASCAL_LEFT_OUT, READING_NUMBERS, WRONG_TYPE};
 
 // The file of a transfer, and the number of the first argument that is an item.
 #[derive(Drop)]
@@ -38,8 +38,8 @@ fn transfer_of(
 ) -> Result<Transfer, Stop> {
     match named_file(scopes, arguments)? {
         Some(file) => {
-            let is_fit = extent == Extent::ItemsAlone || file.pas_type() == PasType::Text;
-            demand(is_fit, FILE_RULE, expr_line(&arguments.items.first.value))?;
+            let is_fit = extent == Extent::ItemsAlone || file.value.pas_type() == PasType::Text;
+            let file = file.noted(is_fit, FILE_RULE).settled()?;
             no_width(&arguments.items.first)?;
             Ok(Transfer { file, first: 1 })
         }
@@ -51,11 +51,18 @@ fn transfer_of(
 }
 
 // The file that the first argument names, if it does.
-fn named_file(scopes: &Scopes<'_>, arguments: &Arguments) -> Result<Option<Place>, Stop> {
+fn named_file(
+    scopes: &Scopes<'_>,
+    arguments: &Arguments,
+) -> Result<Option<Judged<Place>>, Stop> {
     match first_value(scopes, arguments) {
-        Ok(Value::Read(place)) if scopes.types.is_file(place.get().pas_type()) => {
-            Ok(Some(place.into_inner()))
-        }
+        Ok(Judged {
+            value: Value::Read(place),
+            end,
+        }) if scopes.types.is_file(place.get().pas_type()) => Ok(Some(Judged {
+            value: place.into_inner(),
+            end,
+        })),
         Err(Stop::OutOfMemory) => Err(Stop::OutOfMemory),
         _ => Ok(None),
     }
@@ -130,13 +137,11 @@ fn read_item(
     argument: &Argument,
     behind: u32,
 ) -> Result<Place, Stop> {
-    let value = before(behind, value_of(scopes, &argument.value))?;
-    let line = expr_line(&argument.value);
-    if file == PasType::Text {
-        no_number(scopes, &value, line)?;
-    }
-    match value {
-        Value::Read(place) if is_read(scopes, file, place.get().pas_type()) => {
+    let found = value_of(scopes, &argument.value)?;
+    let line = found.end.line;
+    let found = read_only(scopes, file, found);
+    match found.before(behind)? {
+        Value::Read(place) => {
             no_width(argument)?;
             Ok(place.into_inner())
         }
@@ -144,13 +149,24 @@ fn read_item(
     }
 }
 
-// Refuses an integer, but for the name of a function.
-fn no_number(scopes: &Scopes<'_>, value: &Value, line: u32) -> Result<(), Stop> {
-    let is_number = scopes.types.is_of(Base::Integer, value.pas_type());
-    if is_number && !is_call_by_name(value) {
-        return Err(left_out(READING_NUMBERS, line));
+// A variable that a value which is read from a file of this type fits.
+fn read_only(scopes: &Scopes<'_>, file: PasType, found: Judged<Value>) -> Judged<Value> {
+    if file == PasType::Text && is_number(scopes, &found.value) {
+        return found.refused(Wrong {
+            code: PASCAL_LEFT_OUT,
+            which: READING_NUMBERS,
+        });
     }
-    Ok(())
+    let is_fit = match &found.value {
+        Value::Read(place) => is_read(scopes, file, place.get().pas_type()),
+        _ => false,
+    };
+    found.noted(is_fit, WRONG_TYPE)
+}
+
+// Whether a value is an integer, and no function by its name alone.
+fn is_number(scopes: &Scopes<'_>, value: &Value) -> bool {
+    scopes.types.is_of(Base::Integer, value.pas_type()) && !is_call_by_name(value)
 }
 
 // Whether a value is the call of a function without arguments.
@@ -227,14 +243,14 @@ fn item_of(scopes: &mut Scopes<'_>, arguments: &Arguments, index: usize) -> Resu
         let width = width_of(scopes, argument, behind)?;
         return Ok(Item::Text(scopes.keep(text.bytes())?, width));
     }
-    let value = before(
-        line_behind_value(arguments, index),
-        value_of(scopes, &argument.value),
-    )?;
-    match scopes.types.base_of(value.pas_type()) {
-        Some(Base::Integer) => Ok(Item::Number(value, width_of(scopes, argument, behind)?)),
-        Some(Base::Char) => Ok(Item::Char(value, width_of(scopes, argument, behind)?)),
-        _ => Err(fault(WRONG_TYPE, expr_line(&argument.value))),
+    let found = value_of(scopes, &argument.value)?;
+    let base = scopes.types.base_of(found.value.pas_type());
+    let is_fit = matches!(base, Some(Base::Integer | Base::Char));
+    let value = found.noted(is_fit, WRONG_TYPE).before(line_behind_value(arguments, index))?;
+    let width = width_of(scopes, argument, behind)?;
+    match base {
+        Some(Base::Char) => Ok(Item::Char(value, width)),
+        _ => Ok(Item::Number(value, width)),
     }
 }
 
@@ -272,9 +288,8 @@ fn undoubled(scopes: &Scopes<'_>, text: &[u8]) -> Result<Text, Stop> {
 fn width_of(scopes: &Scopes<'_>, argument: &Argument, behind: u32) -> Result<Option<Value>, Stop> {
     match &argument.width {
         Some(width) => {
-            let value = before(behind, value_of(scopes, &width.item))?;
-            only(scopes, Base::Integer, &value, expr_line(&width.item))?;
-            Ok(Some(value))
+            let found = value_of(scopes, &width.item)?;
+            Ok(Some(only(scopes, Base::Integer, found).before(behind)?))
         }
         None => Ok(None),
     }
@@ -303,9 +318,9 @@ fn component_of(
     argument: &Argument,
     behind: u32,
 ) -> Result<Value, Stop> {
-    let value = before(behind, value_of(scopes, &argument.value))?;
-    let is_fit = is_read(scopes, file, value.pas_type());
-    demand(is_fit, WRONG_TYPE, expr_line(&argument.value))?;
+    let found = value_of(scopes, &argument.value)?;
+    let is_fit = is_read(scopes, file, found.value.pas_type());
+    let value = found.noted(is_fit, WRONG_TYPE).before(behind)?;
     no_width(argument)?;
     Ok(value)
 }

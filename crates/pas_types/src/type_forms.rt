@@ -1,9 +1,10 @@
 //! Constants and type expressions (ISO 7185, 6.3 and 6.4, in this project's profile).
 
+use crate::judged::Judged;
 use crate::limits::CELL_LIMIT;
 use crate::scopes::{Entity, FieldNames, Scopes, idents_of};
 use crate::stop::{Stop, demand, fault, left_out};
-use crate::types::{Base, Elements, Field, PasType, Range, Structure};
+use crate::types::{ArrayParts, Base, Field, PasType, Range, Structure};
 use indexmap::IndexSet;
 use pas_syntax::Sign;
 use pas_syntax::tree::{
@@ -98,48 +99,10 @@ fn single_byte(text: &[u8]) -> Option<u8> {
     }
 }
 
-// What a type expression makes: its type, the line of its last token, and the lowest fault that this token shows where
-// the type breaks a rule on files or passes a limit.
-#[derive(Clone, Copy)]
-pub(crate) struct Formed {
-    pub(crate) pas_type: PasType,
-    pub(crate) line: u32,
-    refusal: Option<u16>,
-}
-
-impl Formed {
-    // A lawful type.
-    fn lawful(pas_type: PasType, line: u32) -> Formed {
-        Formed {
-            pas_type,
-            line,
-            refusal: None,
-        }
-    }
-
-    // This, with a fault of its last token where a rule does not hold.
-    pub(crate) fn noted(self, holds: bool, code: u16) -> Formed {
-        let refusal = match self.refusal {
-            _ if holds => self.refusal,
-            Some(lower) if lower < code => self.refusal,
-            _ => Some(code),
-        };
-        Formed { refusal, ..self }
-    }
-
-    // Refuses it by the fault of its last token.
-    pub(crate) fn refused(self) -> Result<(), Stop> {
-        match self.refusal {
-            Some(code) => Err(fault(code, self.line)),
-            None => Ok(()),
-        }
-    }
-}
-
 // The type that a name stands for. `real` is left out where it is not declared.
-pub(crate) fn type_named(scopes: &Scopes<'_>, ident: Ident) -> Result<Formed, Stop> {
+pub(crate) fn type_named(scopes: &Scopes<'_>, ident: Ident) -> Result<Judged<PasType>, Stop> {
     match scopes.named(ident) {
-        Some(Entity::Type(pas_type)) => Ok(Formed::lawful(pas_type, ident.line)),
+        Some(Entity::Type(pas_type)) => Ok(Judged::lawful(pas_type, ident.line)),
         Some(_) => Err(fault(WRONG_TYPE, ident.line)),
         None => match scopes.spelling(ident.span) {
             b"real" => Err(left_out(REAL_NUMBERS, ident.line)),
@@ -148,9 +111,10 @@ pub(crate) fn type_named(scopes: &Scopes<'_>, ident: Ident) -> Result<Formed, St
     }
 }
 
-// What a type expression makes.
+// What a type expression makes. One that breaks a rule on files or passes a limit stays known, so that the lower of two
+// faults of its last token is told.
 #[cycle(type_form)]
-pub(crate) fn form_of(scopes: &mut Scopes<'_>, form: &TypeForm) -> Result<Formed, Stop> {
+pub(crate) fn form_of(scopes: &mut Scopes<'_>, form: &TypeForm) -> Result<Judged<PasType>, Stop> {
     match form {
         TypeForm::Simple(simple) => simple_of(scopes, *simple),
         TypeForm::Array(head, element) => {
@@ -167,7 +131,7 @@ pub(crate) fn form_of(scopes: &mut Scopes<'_>, form: &TypeForm) -> Result<Formed
 }
 
 // What a name or a subrange makes.
-fn simple_of(scopes: &mut Scopes<'_>, simple: Simple) -> Result<Formed, Stop> {
+fn simple_of(scopes: &mut Scopes<'_>, simple: Simple) -> Result<Judged<PasType>, Stop> {
     match simple {
         Simple::Named(ident) => type_named(scopes, ident),
         Simple::Range(low, _, high) => {
@@ -175,7 +139,7 @@ fn simple_of(scopes: &mut Scopes<'_>, simple: Simple) -> Result<Formed, Stop> {
             let high = constant_of(scopes, high)?;
             let range = range_between(low, high)?;
             let pas_type = scopes.types.make(Structure::Subrange(range))?;
-            Ok(Formed::lawful(pas_type, high.line))
+            Ok(Judged::lawful(pas_type, high.line))
         }
     }
 }
@@ -205,48 +169,47 @@ fn indexes_of(scopes: &mut Scopes<'_>, head: &ArrayHead) -> Result<Items<Range>,
 // The range of an index, of which the type is ordinal, and not all integers.
 fn index_of(scopes: &mut Scopes<'_>, simple: Simple) -> Result<Range, Stop> {
     let index = simple_of(scopes, simple)?;
-    match scopes.types.range_of(index.pas_type) {
+    match scopes.types.range_of(index.value) {
         Some(range) => {
-            let is_small = index.pas_type != PasType::Whole(Base::Integer);
-            demand(is_small, TOO_LARGE, index.line)?;
+            let is_small = index.value != PasType::Whole(Base::Integer);
+            demand(is_small, TOO_LARGE, index.end.line)?;
             Ok(range)
         }
-        None => Err(fault(WRONG_TYPE, index.line)),
+        None => Err(fault(WRONG_TYPE, index.end.line)),
     }
 }
 
 // Arrays of arrays, one for each range, of which the inner ones are made first. An element is no file.
-fn arrays(scopes: &mut Scopes<'_>, ranges: &[Range], element: Formed) -> Result<Formed, Stop> {
-    let element = element.noted(!scopes.types.is_file(element.pas_type), FILE_RULE);
-    let mut pas_type = element.pas_type;
+fn arrays(scopes: &mut Scopes<'_>, ranges: &[Range], element: Judged<PasType>) -> Result<Judged<PasType>, Stop> {
+    let is_file = scopes.types.is_file(element.value);
+    let element = element.noted(!is_file, FILE_RULE);
+    let mut pas_type = element.value;
     for range in ranges.iter().rev() {
-        pas_type = scopes.types.make(Structure::Array(Elements {
+        pas_type = scopes.types.make(Structure::Array(ArrayParts {
             indexes: *range,
             element: pas_type,
         }))?;
     }
-    Ok(within_limit(
-        scopes,
-        Formed {
-            pas_type,
-            ..element
-        },
-    ))
+    let array = Judged {
+        value: pas_type,
+        end: element.end,
+    };
+    Ok(within_limit(scopes, array))
 }
 
 // A type has no more cells than the limit.
-fn within_limit(scopes: &Scopes<'_>, formed: Formed) -> Formed {
-    let cells = scopes.types.cells_of(formed.pas_type);
-    formed.noted(cells <= u64::from(CELL_LIMIT), TOO_LARGE)
+fn within_limit(scopes: &Scopes<'_>, made: Judged<PasType>) -> Judged<PasType> {
+    let cells = scopes.types.cells_of(made.value);
+    made.noted(cells <= u64::from(CELL_LIMIT), TOO_LARGE)
 }
 
 // A file of components, which are chars or integers from 0 to 255.
-fn file_of(scopes: &mut Scopes<'_>, component: Formed) -> Result<Formed, Stop> {
-    let component = component.noted(scopes.types.is_component(component.pas_type), FILE_RULE);
-    let pas_type = scopes.types.make(Structure::File(component.pas_type))?;
-    Ok(Formed {
-        pas_type,
-        ..component
+fn file_of(scopes: &mut Scopes<'_>, component: Judged<PasType>) -> Result<Judged<PasType>, Stop> {
+    let is_fit = scopes.types.is_component(component.value);
+    let component = component.noted(is_fit, FILE_RULE);
+    Ok(Judged {
+        value: scopes.types.make(Structure::File(component.value))?,
+        end: component.end,
     })
 }
 
@@ -259,7 +222,7 @@ struct Fields<'p> {
 
 // What a record makes.
 #[cycle(type_form)]
-fn record_of(scopes: &mut Scopes<'_>, form: &RecordForm) -> Result<Formed, Stop> {
+fn record_of(scopes: &mut Scopes<'_>, form: &RecordForm) -> Result<Judged<PasType>, Stop> {
     let mut found = Fields {
         fields: Items::new(scopes.alloc),
         names: IndexSet::new(scopes.alloc),
@@ -272,7 +235,7 @@ fn record_of(scopes: &mut Scopes<'_>, form: &RecordForm) -> Result<Formed, Stop>
     if let PasType::Row(number) = pas_type {
         scopes.fields.insert(number, found.names)?;
     }
-    Ok(within_limit(scopes, Formed::lawful(pas_type, form.end)))
+    Ok(within_limit(scopes, Judged::lawful(pas_type, form.end)))
 }
 
 // Adds the fields of a group, which are no files.
@@ -287,16 +250,12 @@ fn group_of<'p>(
         let name = scopes.spelling(ident.span);
         demand(found.names.insert(name)?, DUPLICATE_NAME, ident.line)?;
     }
-    let formed = form_of(scopes, &group.form)?;
-    formed
-        .noted(!scopes.types.is_file(formed.pas_type), FILE_RULE)
-        .refused()?;
+    let made = form_of(scopes, &group.form)?;
+    let is_file = scopes.types.is_file(made.value);
+    let pas_type = made.noted(!is_file, FILE_RULE).settled()?;
     for ident in idents.as_slice() {
         let name = scopes.keep(scopes.spelling(ident.span))?;
-        found.fields.push(Field {
-            name,
-            pas_type: formed.pas_type,
-        })?;
+        found.fields.push(Field { name, pas_type })?;
     }
     Ok(())
 }

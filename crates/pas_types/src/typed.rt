@@ -38,15 +38,17 @@ pub struct Variable {
     pub pas_type: PasType,
 }
 
-/// A variable with its place among those of its home.
+/// A variable by its place among those of its home.
 #[derive(Clone, Copy, Debug, PartialEq, Eq)]
 pub struct Slot {
     /// Whose it is.
     pub home: Home,
     /// Its number there, from 0. Parameters come before declared variables.
     pub number: u32,
-    /// The variable.
-    pub variable: Variable,
+    /// What it is.
+    pub mode: Mode,
+    /// Its type.
+    pub pas_type: PasType,
 }
 
 /// A required function of one ordinal argument.
@@ -183,7 +185,7 @@ impl Place {
     pub fn pas_type(&self) -> PasType {
         match self.parts.as_slice().last() {
             Some(part) => part.pas_type(),
-            None => self.slot.variable.pas_type,
+            None => self.slot.pas_type,
         }
     }
 

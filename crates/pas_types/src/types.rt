@@ -1,5 +1,6 @@
 //! The types of a Pascal program (ISO 7185, 6.4, in this project's profile).
 
+use crate::stop::count_of;
 use pas_syntax::tree::Span;
 use pas_tokens::GREATEST_NUMBER;
 use sqlite_items::Items;
@@ -84,7 +85,7 @@ pub struct Field {
 
 /// The elements of an array type.
 #[derive(Clone, Copy, Debug, PartialEq, Eq)]
-pub struct Elements {
+pub struct ArrayParts {
     /// The range of the indexes.
     pub indexes: Range,
     /// The type of each element.
@@ -97,7 +98,7 @@ pub enum Structure {
     /// A subrange.
     Subrange(Range),
     /// An array.
-    Array(Elements),
+    Array(ArrayParts),
     /// A record of these fields.
     Fields(Items<Field>),
     /// A file of components of this type.
@@ -171,7 +172,7 @@ impl Table {
     }
 
     /// The elements of an array type.
-    pub fn elements_of(&self, pas_type: PasType) -> Option<Elements> {
+    pub fn elements_of(&self, pas_type: PasType) -> Option<ArrayParts> {
         match self.structure_of(pas_type) {
             Some(Structure::Array(elements)) => Some(*elements),
             _ => None,
@@ -225,7 +226,7 @@ impl Table {
     pub fn are_compatible(&self, pas_type: PasType, other: PasType) -> bool {
         match (self.base_of(pas_type), self.base_of(other)) {
             (Some(base), Some(found)) => base == found,
-            (None, None) => pas_type == other && !self.is_file(pas_type),
+            (None, None) => pas_type == other,
             _ => false,
         }
     }
@@ -240,7 +241,7 @@ impl Table {
 
     // Adds what a type expression makes, of types that are there.
     pub(crate) fn make(&mut self, structure: Structure) -> Result<PasType, OutOfMemory> {
-        let number = u32::try_from(self.rows.len()).map_err(|_| OutOfMemory)?;
+        let number = count_of(self.rows.len())?;
         let cells = self.cells_in(&structure);
         self.rows.push(TypeRow { structure, cells })?;
         Ok(PasType::Row(number))
@@ -250,7 +251,7 @@ impl Table {
     fn cells_in(&self, structure: &Structure) -> u64 {
         match structure {
             Structure::Subrange(_) | Structure::File(_) => 1,
-            Structure::Array(Elements { indexes, element }) => {
+            Structure::Array(ArrayParts { indexes, element }) => {
                 indexes.count().saturating_mul(self.cells_of(*element))
             }
             Structure::Fields(fields) => {

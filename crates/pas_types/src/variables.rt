@@ -2,11 +2,11 @@
 
 use crate::expressions::{only, value_of};
 use crate::functions::one_too_many;
-use crate::last_lines::{expr_line, selector_line};
+use crate::judged::Judged;
 use crate::scopes::{Entity, Scopes};
-use crate::stop::{Stop, before, demand, fault};
+use crate::stop::{Stop, demand, fault};
 use crate::typed::{Part, Place, Slot};
-use crate::types::Elements;
+use crate::types::ArrayParts;
 use pas_syntax::tree::{Expr, Exprs, Ident, Selector, Variable};
 use sqlite_items::Items;
 use wb_base::faults::{UNKNOWN_NAME, WRONG_TYPE};
@@ -21,7 +21,7 @@ pub(crate) fn whole(scopes: &Scopes<'_>, slot: Slot) -> Place {
 
 // What a variable means as a place.
 #[cycle(expression)]
-pub(crate) fn place_of(scopes: &Scopes<'_>, variable: &Variable) -> Result<Place, Stop> {
+pub(crate) fn place_of(scopes: &Scopes<'_>, variable: &Variable) -> Result<Judged<Place>, Stop> {
     let slot = variable_named(scopes, variable.name)?;
     let mut place = whole(scopes, slot);
     let mut line = variable.name.line;
@@ -29,7 +29,16 @@ pub(crate) fn place_of(scopes: &Scopes<'_>, variable: &Variable) -> Result<Place
         select(scopes, &mut place, line, selector)?;
         line = selector_line(selector);
     }
-    Ok(place)
+    Ok(Judged::lawful(place, line))
+}
+
+// The line of the last token of a selector.
+fn selector_line(selector: &Selector) -> u32 {
+    match selector {
+        Selector::Indexes(_, _, closed) => *closed,
+        Selector::Field(_, ident) => ident.line,
+        Selector::Buffer(line) => *line,
+    }
 }
 
 // The variable that a name stands for.
@@ -56,10 +65,7 @@ fn select(
             select_elements(scopes, place, indexes.get(), *closed)
         }
         Selector::Field(_, ident) => select_field(scopes, place, line, *ident),
-        Selector::Buffer(_) => match scopes.types.component_of(place.pas_type()) {
-            Some(component) => Ok(place.parts.push(Part::Buffer(component))?),
-            None => Err(fault(WRONG_TYPE, line)),
-        },
+        Selector::Buffer(_) => select_buffer(scopes, place, line),
     }
 }
 
@@ -71,12 +77,7 @@ fn select_elements(
     indexes: &Exprs,
     closed: u32,
 ) -> Result<(), Stop> {
-    select_element(
-        scopes,
-        place,
-        &indexes.first,
-        line_behind(indexes, 0, closed),
-    )?;
+    select_element(scopes, place, &indexes.first, line_behind(indexes, 0, closed))?;
     for (index, more) in indexes.more.as_slice().iter().enumerate() {
         let behind = line_behind(indexes, index + 1, closed);
         select_element(scopes, place, &more.value, behind)?;
@@ -101,9 +102,9 @@ fn select_element(
     behind: u32,
 ) -> Result<(), Stop> {
     match scopes.types.elements_of(place.pas_type()) {
-        Some(Elements { indexes, element }) => {
-            let value = before(behind, value_of(scopes, index))?;
-            only(scopes, indexes.base, &value, expr_line(index))?;
+        Some(ArrayParts { indexes, element }) => {
+            let found = value_of(scopes, index)?;
+            let value = only(scopes, indexes.base, found).before(behind)?;
             Ok(place.parts.push(Part::Element(indexes, element, value))?)
         }
         None => Err(one_too_many(scopes, index)),
@@ -123,5 +124,13 @@ fn select_field(
     match scopes.field_named(pas_type, ident) {
         Some(field) => Ok(place.parts.push(field)?),
         None => Err(fault(UNKNOWN_NAME, ident.line)),
+    }
+}
+
+// Selects the buffer of a file.
+fn select_buffer(scopes: &Scopes<'_>, place: &mut Place, line: u32) -> Result<(), Stop> {
+    match scopes.types.component_of(place.pas_type()) {
+        Some(component) => Ok(place.parts.push(Part::Buffer(component))?),
+        None => Err(fault(WRONG_TYPE, line)),
     }
 }
