@@ -35,7 +35,9 @@ pub(crate) fn assignment_of(
 ) -> Result<Statement, Stop> {
     let target = target_of(scopes, &assignment.target)?;
     let is_file = scopes.types.is_file(target.value.pas_type());
-    let target = target.noted(!is_file, WRONG_TYPE).before(assignment.becomes)?;
+    let target = target
+        .noted(!is_file, WRONG_TYPE)
+        .before(assignment.becomes)?;
     let found = value_of(scopes, &assignment.value)?;
     let is_fit = scopes
         .types

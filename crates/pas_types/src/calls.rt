@@ -1,8 +1,8 @@
 //! Statements that call a procedure (ISO 7185, 6.8.2.3 and 6.9, in this project's profile).
 
 use crate::expressions::{only, value_of};
-use crate::judged::Judged;
 use crate::functions::{argument_of, file_only, one_too_many};
+use crate::judged::Judged;
 use crate::scopes::{Entity, Procedure, Scopes};
 use crate::stop::{Stop, demand, fault};
 use crate::transfers::{read_alone, read_call, write_alone, write_call};

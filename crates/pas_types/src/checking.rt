@@ -21,10 +21,10 @@ use wb_base::faults::{DUPLICATE_NAME, FILE_RULE, UNKNOWN_NAME, WRONG_LABEL};
 /// # Errors
 ///
 /// The fault of the first token that shows one, at its line, and at one token the one with the lowest number: 53 for a
-/// part of Pascal that is left out, 54 for a name that is not declared, 55 for one that is declared twice, 56 for what
-/// has another type than is needed, 57 for a constant out of its range, 58 for a label that is not declared or does not
-/// stand, 59 for a goto to a place that it may not reach, 60 for a limit that is passed, 61 for a file against the rules
-/// of files, 62 for a function whose result is never assigned.
+/// part of Pascal that is left out, 54 for a name that is not declared, 55 for one that is there already, 56 for what
+/// has another type than is needed, 57 for a constant out of its range, 58 for a label that is not declared or does
+/// not stand, 59 for a goto to a place that it may not reach, 60 for a limit that is passed, 61 for a file against the
+/// rules of files, 62 for a function whose result is never assigned.
 pub fn check(alloc: Global, program: &Program) -> Result<Typed, WorkErr> {
     match before(program.tree.end, typed(alloc, program)) {
         Ok(typed) => Ok(typed),

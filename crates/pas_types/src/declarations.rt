@@ -1,19 +1,18 @@
 //! Declarations (ISO 7185, 6.2 to 6.5, in this project's profile). A name holds from behind its whole declaration.
 
-use crate::limits::{CELL_LIMIT, ROUTINE_CELL_LIMIT};
-use crate::scopes::{Entity, Inner, Names, Scopes, idents_of};
-use crate::stop::{Stop, count_of, demand};
 use crate::judged::Judged;
+use crate::limits::{CELL_LIMIT, ROUTINE_CELL_LIMIT};
+use crate::scopes::{Entity, Scopes, idents_of};
+use crate::stop::{Stop, count_of, demand};
 use crate::type_forms::{constant_of, form_of};
 use crate::typed::{Home, Mode, Slot, Variable};
 use crate::types::PasType;
 use indexmap::IndexSet;
 use pas_syntax::tree::{ConstantRow, Ident, Rows, TypeRow, VariableRow};
-use sqlite_items::Items;
 use wb_base::faults::{DUPLICATE_NAME, FILE_RULE, TOO_LARGE};
 
-// Whether a name is that of a text file that needs no declaration where it is a parameter of the program, and that none
-// declares.
+// Whether a name is that of a text file that needs no declaration where it is a parameter of the program, and that
+// none declares.
 pub(crate) fn is_standard(name: &[u8]) -> bool {
     matches!(name, b"input" | b"output")
 }
@@ -143,11 +142,7 @@ fn add_cells(scopes: &mut Scopes<'_>, pas_type: PasType, count: usize) {
 }
 
 // Variables of the program of a file type are its parameters, and all its variables have no more cells than the limit.
-fn global_only(
-    scopes: &Scopes<'_>,
-    idents: &[Ident],
-    made: Judged<PasType>,
-) -> Judged<PasType> {
+fn global_only(scopes: &Scopes<'_>, idents: &[Ident], made: Judged<PasType>) -> Judged<PasType> {
     let are_parameters = idents.iter().all(|ident| scopes
         .parameters
         .contains(scopes.spelling(ident.span)));
@@ -211,8 +206,8 @@ pub(crate) fn new_local_names(scopes: &Scopes<'_>, idents: &[Ident]) -> Result<(
     Ok(())
 }
 
-// Adds variables of the routine. None is a file but by name, and all have no more cells than the limit. One by name has
-// one cell.
+// Adds variables of the routine. None is a file but by name, and all have no more cells than the limit. One by name
+// has one cell.
 pub(crate) fn add_locals(
     scopes: &mut Scopes<'_>,
     idents: &[Ident],

@@ -36,7 +36,9 @@ fn comparison_of(
     let is_ordinal = scopes.types.base_of(first.value.pas_type()).is_some();
     let first = first.noted(is_ordinal, WRONG_TYPE).before(relation.line)?;
     let second = sum_of(scopes, right)?;
-    let is_like = scopes.types.are_compatible(first.pas_type(), second.value.pas_type());
+    let is_like = scopes
+        .types
+        .are_compatible(first.pas_type(), second.value.pas_type());
     let second = second.noted(is_like, WRONG_TYPE);
     Ok(Judged {
         value: Value::Comparison(

@@ -12,19 +12,21 @@ use pas_syntax::tree::{Expr, Exprs, Factor, FunctionCall, Ident, Sum, Term};
 use sqlite_items::{Boxed, Items};
 use wb_base::faults::{FILE_RULE, UNKNOWN_NAME, WRONG_TYPE};
 
-// What the name of a routine means as a value: the call of a function that takes no arguments. One that takes some shows
-// it at the token behind, and stays known by its type.
+// What the name of a routine means as a value: the call of a function that takes no arguments. One that takes some
+// shows it at the token behind, and stays known by its type.
 pub(crate) fn function_alone(
     scopes: &Scopes<'_>,
     ident: Ident,
     number: u32,
 ) -> Result<Judged<Value>, Stop> {
     match scopes.heading_of(number) {
-        Some(Heading {
-            result: Some(pas_type),
-            parameters,
-            ..
-        }) => {
+        Some(
+            Heading {
+                result: Some(pas_type),
+                parameters,
+                ..
+            },
+        ) => {
             let call = Call {
                 routine: number,
                 pas_type: *pas_type,
@@ -33,14 +35,19 @@ pub(crate) fn function_alone(
             let end = End::lawful(ident.line);
             Ok(Judged {
                 value: Value::Call(Boxed::new(scopes.alloc, call)?),
-                end: if parameters.is_empty() { end } else { end.short() },
+                end: if parameters.is_empty() {
+                    end
+                } else {
+                    end.short()
+                },
             })
         }
         _ => Err(fault(WRONG_TYPE, ident.line)),
     }
 }
 
-// What the name of a required function in this line means, which shows at the token behind that its argument is missing.
+// What the name of a required function in this line means, which shows at the token behind that its argument is
+// missing.
 pub(crate) fn missing_arguments(function: Function, line: u32) -> Judged<Value> {
     let base = match function {
         Function::Ord | Function::Abs => Base::Integer,
@@ -88,11 +95,13 @@ pub(crate) fn called(scopes: &Scopes<'_>, call: &FunctionCall) -> Result<Judged<
 #[cycle(expression)]
 fn routine_called(scopes: &Scopes<'_>, call: &FunctionCall, number: u32) -> Result<Value, Stop> {
     match scopes.heading_of(number) {
-        Some(Heading {
-            result: Some(pas_type),
-            parameters,
-            ..
-        }) => {
+        Some(
+            Heading {
+                result: Some(pas_type),
+                parameters,
+                ..
+            },
+        ) => {
             let call = Call {
                 routine: number,
                 pas_type: *pas_type,
@@ -157,8 +166,8 @@ fn passed_by(
     }
 }
 
-// Whether a value may be passed: a variable parameter takes a variable of its type that is no buffer of a file, another
-// one a compatible value.
+// Whether a value may be passed: a variable parameter takes a variable of its type that is no buffer of a file,
+// another one a compatible value.
 fn fits_parameter(scopes: &Scopes<'_>, parameter: Variable, value: &Value) -> bool {
     match (parameter.mode, value) {
         (Mode::ByName, Value::Read(place)) => {
@@ -166,7 +175,9 @@ fn fits_parameter(scopes: &Scopes<'_>, parameter: Variable, value: &Value) -> bo
             place.pas_type() == parameter.pas_type && !place.is_buffer()
         }
         (Mode::ByName, _) => false,
-        _ => scopes.types.are_compatible(parameter.pas_type, value.pas_type()),
+        _ => scopes
+            .types
+            .are_compatible(parameter.pas_type, value.pas_type()),
     }
 }
 

@@ -2,8 +2,8 @@
 
 use crate::stop::{Stop, Wrong, before, shown};
 
-// The end of a part: the line of its last token, the lowest fault that this token shows because the part breaks a rule,
-// and whether something is missing at the token behind.
+// The end of a part: the line of its last token, the lowest fault that this token shows because the part breaks a
+// rule, and whether something is missing at the token behind.
 #[derive(Clone, Copy)]
 pub(crate) struct End {
     pub(crate) line: u32,
@@ -57,7 +57,11 @@ impl End {
     // Refuses the part by the fault of its last token, or where something is missing behind it.
     fn is_whole(self) -> Result<(), Stop> {
         self.stands()?;
-        if self.is_short { Err(Stop::Missing) } else { Ok(()) }
+        if self.is_short {
+            Err(Stop::Missing)
+        } else {
+            Ok(())
+        }
     }
 }
 
@@ -72,7 +76,11 @@ impl<T: Drop> Judged<T> {
 
     // This, with a fault of the last token where a rule does not hold.
     pub(crate) fn noted(self, holds: bool, code: u16) -> Judged<T> {
-        if holds { self } else { self.refused(Wrong { code, which: 0 }) }
+        if holds {
+            self
+        } else {
+            self.refused(Wrong { code, which: 0 })
+        }
     }
 
     // This, with a fault of the last token.

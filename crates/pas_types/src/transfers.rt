@@ -51,15 +51,14 @@ fn transfer_of(
 }
 
 // The file that the first argument names, if it does.
-fn named_file(
-    scopes: &Scopes<'_>,
-    arguments: &Arguments,
-) -> Result<Option<Judged<Place>>, Stop> {
+fn named_file(scopes: &Scopes<'_>, arguments: &Arguments) -> Result<Option<Judged<Place>>, Stop> {
     match first_value(scopes, arguments) {
-        Ok(Judged {
-            value: Value::Read(place),
-            end,
-        }) if scopes.types.is_file(place.get().pas_type()) => Ok(Some(Judged {
+        Ok(
+            Judged {
+                value: Value::Read(place),
+                end,
+            },
+        ) if scopes.types.is_file(place.get().pas_type()) => Ok(Some(Judged {
             value: place.into_inner(),
             end,
         })),
@@ -246,7 +245,9 @@ fn item_of(scopes: &mut Scopes<'_>, arguments: &Arguments, index: usize) -> Resu
     let found = value_of(scopes, &argument.value)?;
     let base = scopes.types.base_of(found.value.pas_type());
     let is_fit = matches!(base, Some(Base::Integer | Base::Char));
-    let value = found.noted(is_fit, WRONG_TYPE).before(line_behind_value(arguments, index))?;
+    let value = found
+        .noted(is_fit, WRONG_TYPE)
+        .before(line_behind_value(arguments, index))?;
     let width = width_of(scopes, argument, behind)?;
     match base {
         Some(Base::Char) => Ok(Item::Char(value, width)),

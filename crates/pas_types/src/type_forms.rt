@@ -111,8 +111,8 @@ pub(crate) fn type_named(scopes: &Scopes<'_>, ident: Ident) -> Result<Judged<Pas
     }
 }
 
-// What a type expression makes. One that breaks a rule on files or passes a limit stays known, so that the lower of two
-// faults of its last token is told.
+// What a type expression makes. One that breaks a rule on files or passes a limit stays known, so that the lower of
+// two faults of its last token is told.
 #[cycle(type_form)]
 pub(crate) fn form_of(scopes: &mut Scopes<'_>, form: &TypeForm) -> Result<Judged<PasType>, Stop> {
     match form {
@@ -180,7 +180,11 @@ fn index_of(scopes: &mut Scopes<'_>, simple: Simple) -> Result<Range, Stop> {
 }
 
 // Arrays of arrays, one for each range, of which the inner ones are made first. An element is no file.
-fn arrays(scopes: &mut Scopes<'_>, ranges: &[Range], element: Judged<PasType>) -> Result<Judged<PasType>, Stop> {
+fn arrays(
+    scopes: &mut Scopes<'_>,
+    ranges: &[Range],
+    element: Judged<PasType>,
+) -> Result<Judged<PasType>, Stop> {
     let is_file = scopes.types.is_file(element.value);
     let element = element.noted(!is_file, FILE_RULE);
     let mut pas_type = element.value;

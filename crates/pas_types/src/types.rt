@@ -114,7 +114,8 @@ pub struct TypeRow {
     pub cells: u64,
 }
 
-/// The types that the type expressions of a program make, in the order in which these end. Each is made of earlier ones.
+/// The types that the type expressions of a program make, in the order in which these end. Each is made of earlier
+/// ones.
 #[derive(Debug, Drop)]
 pub struct Table {
     rows: Items<TypeRow>,

@@ -77,7 +77,12 @@ fn select_elements(
     indexes: &Exprs,
     closed: u32,
 ) -> Result<(), Stop> {
-    select_element(scopes, place, &indexes.first, line_behind(indexes, 0, closed))?;
+    select_element(
+        scopes,
+        place,
+        &indexes.first,
+        line_behind(indexes, 0, closed),
+    )?;
     for (index, more) in indexes.more.as_slice().iter().enumerate() {
         let behind = line_behind(indexes, index + 1, closed);
         select_element(scopes, place, &more.value, behind)?;
