@@ -70,7 +70,10 @@ fn checks_names(rt: HostRuntime) -> Result<(), Fail> {
         Row { shows: (54, 0, 2), text: b"procedure p;forward;begin\nend." },
         Row { shows: (0, 0, 0), text: b"procedure p;forward;procedure p;begin end;begin p end." },
         Row { shows: (54, 0, 2), text: b"procedure p;begin\nq end;procedure q;begin end;begin end." },
-        Row { shows: (0, 0, 0), text: b"procedure q;forward;procedure p;begin q end;procedure q;begin end;begin end." },
+        Row {
+            shows: (0, 0, 0),
+            text: b"procedure q;forward;procedure p;begin q end;procedure q;begin end;begin end.",
+        },
         Row { shows: (0, 0, 0), text: b"procedure p;begin p end;begin end." },
         Row { shows: (54, 0, 2), text: b"begin\nt end." },
         Row { shows: (0, 0, 0), text: b"var t:integer;begin t:=1 end." },
@@ -172,7 +175,10 @@ fn checks_files(rt: HostRuntime) -> Result<(), Fail> {
         Row { shows: (61, 0, 2), text: b"program t(\na);const a=1;begin end." },
         Row { shows: (61, 0, 2), text: b"program t(\na);procedure a;begin end;begin end." },
         Row { shows: (61, 0, 2), text: b"program t(\na);var a:zz;begin end." },
-        Row { shows: (0, 0, 0), text: b"program t(a,b,c,input,output);var a:text;b:file of char;c:file of 0..255;begin end." },
+        Row {
+            shows: (0, 0, 0),
+            text: b"program t(a,b,c,input,output);var a:text;b:file of char;c:file of 0..255;begin end.",
+        },
         Row { shows: (61, 0, 2), text: b"program t(\na);var a:file of 0..256;begin end." },
         Row { shows: (55, 0, 2), text: b"program t(a,\na);var a:text;begin end." },
         Row { shows: (54, 0, 2), text: b"program t(a,\nb);const c=zz;var a:text;begin end." },
@@ -194,14 +200,23 @@ fn checks_files(rt: HostRuntime) -> Result<(), Fail> {
         Row { shows: (61, 0, 2), text: b"begin\nread end." },
         Row { shows: (61, 0, 2), text: b"begin if\neof then end." },
         Row { shows: (0, 0, 0), text: b"program t(input);begin if eof and eoln then end." },
-        Row { shows: (61, 0, 2), text: b"program t(output);procedure p;var output:char;begin\nwriteln end;begin end." },
-        Row { shows: (0, 0, 0), text: b"program t(output);procedure p(var f:text);begin writeln(f) end;begin writeln;p(output) end." },
+        Row {
+            shows: (61, 0, 2),
+            text: b"program t(output);procedure p;var output:char;begin\nwriteln end;begin end.",
+        },
+        Row {
+            shows: (0, 0, 0),
+            text: b"program t(output);procedure p(var f:text);begin writeln(f) end;begin writeln;p(output) end.",
+        },
         Row { shows: (61, 0, 2), text: b"program t(a);var a:file of char;begin if eof(a)=eoln(\na) then end." },
         Row { shows: (61, 0, 2), text: b"program t(a);var a:file of char;begin readln(\na) end." },
         Row { shows: (61, 0, 2), text: b"program t(a);var a:file of char;begin writeln(\na,'b') end." },
         Row { shows: (56, 0, 1), text: b"program t(a);var a:text;begin a:=\na end." },
         Row { shows: (56, 0, 2), text: b"program t(a,b);var a,b:text;begin\na\n:=b end." },
-        Row { shows: (0, 0, 0), text: b"program t(a);var a:text;b:char;begin reset(a);b:=a^;get(a);rewrite(a);a^:='c';put(a) end." },
+        Row {
+            shows: (0, 0, 0),
+            text: b"program t(a);var a:text;b:char;begin reset(a);b:=a^;get(a);rewrite(a);a^:='c';put(a) end.",
+        },
         Row { shows: (0, 0, 0), text: b"program t(a);var a:file of 0..255;begin a^:=1;write(a,2,3);read(a,a^) end." },
         Row { shows: (56, 0, 2), text: b"program t(a);var a:file of 0..255;begin a^:=\n'b' end." },
         Row { shows: (56, 0, 2), text: b"program t(a);var a:file of 0..255;begin write(a,\n'b') end." },
@@ -258,7 +273,11 @@ fn checks_labels(rt: HostRuntime) -> Result<(), Fail> {
 fn checks_expressions(rt: HostRuntime) -> Result<(), Fail> {
     #[rattlefmt::skip]
     let rows = [
-        Row { shows: (0, 0, 0), text: b"var a:integer;b:boolean;c:char;begin a:=-1*2 div 3 mod 4+5-a;b:=not b and true or (a<2);b:=c<>'d' end." },
+        Row { shows: (0, 0, 0), text: b"var a:integer;begin a:=-1*2 div 3 mod 4+5-a end." },
+        Row {
+            shows: (0, 0, 0),
+            text: b"var a:integer;b:boolean;c:char;begin b:=not b and true or (a<2);b:=c<>'d' end.",
+        },
         Row { shows: (56, 0, 2), text: b"var a:integer;begin a:=1+\ntrue end." },
         Row { shows: (56, 0, 2), text: b"var a:integer;begin a:=\ntrue\n+1 end." },
         Row { shows: (56, 0, 2), text: b"var a:integer;begin a:=1*\n'b' end." },
@@ -274,7 +293,10 @@ fn checks_expressions(rt: HostRuntime) -> Result<(), Fail> {
         Row { shows: (0, 0, 0), text: b"var a:1..2;begin a:=3 end." },
         Row { shows: (0, 0, 0), text: b"var a:char;begin a:='b';a:='''' end." },
         Row { shows: (53, 10, 2), text: b"var a:char;begin a:=\n'bc' end." },
-        Row { shows: (0, 0, 0), text: b"var a:integer;begin a:=ord('b')+ord(true)+abs(-1);if odd(a) then a:=ord(chr(a)) end." },
+        Row {
+            shows: (0, 0, 0),
+            text: b"var a:integer;begin a:=ord('b')+ord(true)+abs(-1);if odd(a) then a:=ord(chr(a)) end.",
+        },
         Row { shows: (56, 0, 2), text: b"var a:char;begin a:=chr(\n'b') end." },
         Row { shows: (56, 0, 2), text: b"var a:integer;begin a:=abs(1,\n2) end." },
         Row { shows: (56, 0, 2), text: b"var a:integer;begin a:=abs\n+1 end." },
@@ -312,7 +334,10 @@ fn checks_variables(rt: HostRuntime) -> Result<(), Fail> {
         Row { shows: (56, 0, 2), text: b"var a:char;begin\na\n[1]:='c' end." },
         Row { shows: (56, 0, 2), text: b"var a:char;begin\na\n.b:='c' end." },
         Row { shows: (56, 0, 2), text: b"var a:char;begin\na\n^:='c' end." },
-        Row { shows: (0, 0, 0), text: b"type r=record a,b:char end;s=array[1..2] of r;var c:s;d:r;begin c[1].b:='e';c[2]:=d;d:=c[1] end." },
+        Row {
+            shows: (0, 0, 0),
+            text: b"type r=record a,b:char end;s=array[1..2] of r;var c:s;d:r;begin c[1].b:='e';c[2]:=d;d:=c[1] end.",
+        },
         Row { shows: (56, 0, 2), text: b"var a:array[1..2] of char;b:array[1..2] of char;begin a:=\nb end." },
         Row { shows: (0, 0, 0), text: b"var a,b:array[1..2] of char;begin a:=b end." },
         Row { shows: (56, 0, 2), text: b"const a=1;begin\na:=1 end." },
@@ -329,12 +354,21 @@ fn checks_variables(rt: HostRuntime) -> Result<(), Fail> {
 fn checks_routines(rt: HostRuntime) -> Result<(), Fail> {
     #[rattlefmt::skip]
     let rows = [
-        Row { shows: (0, 0, 0), text: b"var c:integer;procedure p(a:char;var b:integer);begin end;begin p('d',c) end." },
+        Row {
+            shows: (0, 0, 0),
+            text: b"var c:integer;procedure p(a:char;var b:integer);begin end;begin p('d',c) end.",
+        },
         Row { shows: (56, 0, 2), text: b"var c:1..2;procedure p(var b:integer);begin end;begin p(\nc) end." },
         Row { shows: (56, 0, 2), text: b"procedure p(var b:integer);begin end;begin p(\n1) end." },
         Row { shows: (56, 0, 3), text: b"var c:integer;procedure p(var b:integer);begin end;begin p((\nc\n)) end." },
-        Row { shows: (0, 0, 0), text: b"var a:record b:integer end;procedure p(var b:integer);begin end;begin p(a.b) end." },
-        Row { shows: (56, 0, 2), text: b"program t(f);var f:text;procedure p(var b:char);begin end;begin p(f\n^) end." },
+        Row {
+            shows: (0, 0, 0),
+            text: b"var a:record b:integer end;procedure p(var b:integer);begin end;begin p(a.b) end.",
+        },
+        Row {
+            shows: (56, 0, 2),
+            text: b"program t(f);var f:text;procedure p(var b:char);begin end;begin p(f\n^) end.",
+        },
         Row { shows: (56, 0, 2), text: b"procedure p(a:char);begin end;begin p(\n1) end." },
         Row { shows: (56, 0, 2), text: b"procedure p(a,b:char);begin end;begin p('a'\n) end." },
         Row { shows: (56, 0, 2), text: b"procedure p(a:char);begin end;begin p('a',\n'b') end." },
@@ -351,7 +385,10 @@ fn checks_routines(rt: HostRuntime) -> Result<(), Fail> {
         Row { shows: (56, 0, 2), text: b"function f:integer;begin f:=1 end;procedure p;begin\nf:=1 end;begin end." },
         Row { shows: (56, 0, 2), text: b"procedure p;begin\np:=1 end;begin end." },
         Row { shows: (56, 0, 2), text: b"function f:integer;begin f:=\n'a' end;begin end." },
-        Row { shows: (0, 0, 0), text: b"function f:integer;begin if true then f:=1 else begin f:=2 end end;begin end." },
+        Row {
+            shows: (0, 0, 0),
+            text: b"function f:integer;begin if true then f:=1 else begin f:=2 end end;begin end.",
+        },
         Row { shows: (62, 0, 2), text: b"function f:integer;begin\nend;begin end." },
         Row { shows: (58, 0, 2), text: b"function f:integer;label 5;begin\nend;begin end." },
         Row { shows: (56, 0, 2), text: b"function f\n;begin f:=1 end;begin end." },
@@ -369,8 +406,14 @@ fn checks_routines(rt: HostRuntime) -> Result<(), Fail> {
         Row { shows: (0, 0, 0), text: b"type a=array[1..4097] of char;procedure p(var b:a);begin end;begin end." },
         Row { shows: (60, 0, 2), text: b"procedure p(b:char);var a:array[1..4096] of\nchar;begin end;begin end." },
         Row { shows: (56, 0, 2), text: b"procedure p(integer:char;b:\ninteger);begin end;begin end." },
-        Row { shows: (56, 0, 2), text: b"function f(a:char):integer;begin f:=1 end;procedure p(var b:integer);begin end;begin p(\nf\n) end." },
-        Row { shows: (56, 0, 2), text: b"function f(a:char):integer;begin f:=1 end;procedure p(b:integer);begin end;begin p(f\n) end." },
+        Row {
+            shows: (56, 0, 2),
+            text: b"function f(a:char):char;begin f:=a end;procedure p(var b:char);begin end;begin p(\nf\n) end.",
+        },
+        Row {
+            shows: (56, 0, 2),
+            text: b"function f(a:char):integer;begin f:=1 end;procedure p(b:integer);begin end;begin p(f\n) end.",
+        },
     ];
     for (index, row) in rows.iter().enumerate() {
         let got = answer(rt.alloc(), row.text)?;
@@ -419,7 +462,10 @@ fn checks_statements(rt: HostRuntime) -> Result<(), Fail> {
 fn checks_transfers(rt: HostRuntime) -> Result<(), Fail> {
     #[rattlefmt::skip]
     let rows = [
-        Row { shows: (0, 0, 0), text: b"program t(output);begin write(1,'a','bc',2:3,'d':4,'ef':5);writeln(1);writeln end." },
+        Row {
+            shows: (0, 0, 0),
+            text: b"program t(output);begin write(1,'a','bc',2:3,'d':4,'ef':5);writeln(1);writeln end.",
+        },
         Row { shows: (56, 0, 2), text: b"program t(output);begin write(\ntrue) end." },
         Row { shows: (56, 0, 2), text: b"program t(output);begin write\nend." },
         Row { shows: (56, 0, 2), text: b"program t(output);begin write(output\n) end." },
@@ -427,7 +473,10 @@ fn checks_transfers(rt: HostRuntime) -> Result<(), Fail> {
         Row { shows: (56, 0, 2), text: b"program t(output);begin write(output\n:1) end." },
         Row { shows: (56, 0, 2), text: b"program t(output);begin write(1:\ntrue) end." },
         Row { shows: (53, 10, 2), text: b"program t(output);begin write((\n'ab')) end." },
-        Row { shows: (0, 0, 0), text: b"program t(input);var a:char;begin read(a);read(input,a,a);readln(a);readln end." },
+        Row {
+            shows: (0, 0, 0),
+            text: b"program t(input);var a:char;begin read(a);read(input,a,a);readln(a);readln end.",
+        },
         Row { shows: (53, 9, 2), text: b"program t(input);var a:integer;begin read(\na) end." },
         Row { shows: (53, 9, 2), text: b"program t(input);begin read(input,1+\n1) end." },
         Row { shows: (56, 0, 2), text: b"program t(input);var a:boolean;begin read(\na) end." },
@@ -440,7 +489,10 @@ fn checks_transfers(rt: HostRuntime) -> Result<(), Fail> {
         Row { shows: (54, 0, 2), text: b"program t(output);begin write(\nzz,1) end." },
         Row { shows: (0, 0, 0), text: b"program t(f,g);var f:text;g:text;begin read(f,g^) end." },
         Row { shows: (53, 9, 2), text: b"program t(input);begin read(1+\ntrue) end." },
-        Row { shows: (56, 0, 2), text: b"program t(input);function f(a:char):char;begin f:=a end;begin read(\nf\n) end." },
+        Row {
+            shows: (56, 0, 2),
+            text: b"program t(input);function f(a:char):char;begin f:=a end;begin read(\nf\n) end.",
+        },
         Row { shows: (56, 0, 2), text: b"program t(output);begin write(\neof) end." },
     ];
     for (index, row) in rows.iter().enumerate() {
