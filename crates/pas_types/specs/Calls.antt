@@ -66,7 +66,7 @@ procedure_with scopes number heading arguments (Some type) =
 procedure_with scopes number heading arguments None =
     let demands = demands_of scopes.outer.types heading.parameters in
     judged (called demands arguments)
-    (known (λ values. typed.calls number (passed_to typed.nothing heading.parameters values))
+    (known (λ values. typed.calls number (passed_to heading.parameters values))
     (given demands arguments))
 
 abbrev pub routine_with : Scopes → ℕ → List Given → Option Heading → Judged Statement

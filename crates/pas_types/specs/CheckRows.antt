@@ -85,7 +85,8 @@ unfolding checked_of program_words
 if_true_shows_none = refl
 
 pub if_true_means : meaning_of if_true
-    ≡ Some (typed.one None (typed.if_else (typed.constant types.boolean (pos 1)) typed.empty typed.empty))
+    ≡ Some (typed.item None (typed.if_else (typed.constant types.boolean (pos 1)) typed.empty typed.empty)
+    typed.no_statements)
 unfolding checked_of
 if_true_means = refl
 
@@ -123,7 +124,7 @@ element_assigned = with_variable (array_form 1 3) (one (tree.assignment
     (tree.indexed (tree.whole (name_of (codes "a"))) 1 (tree.first_expr (expr_of (tree.literal (number_of 2)))) 1) 1
     (expr_of (tree.literal_text (record { text = codes "x"; line = 1 })))))
 
-pub element_assigned_means : meaning_of element_assigned ≡ Some (typed.one None (typed.assigns
+pub element_assigned_means : meaning_of element_assigned ≡ Some (typed.item None (typed.assigns
     (typed.element (typed.slot (record {
       home = typed.global;
       number = 0;
@@ -131,7 +132,7 @@ pub element_assigned_means : meaning_of element_assigned ≡ Some (typed.one Non
       type = types.row 1;
     })) (record { base = types.integer; low = pos 1; high = pos 3 }) (types.whole types.char)
     (typed.constant types.integer (pos 2)))
-    (typed.constant types.char (pos 120))))
+    (typed.constant types.char (pos 120))) typed.no_statements)
 unfolding checked_of
 element_assigned_means = refl
 

@@ -257,18 +257,18 @@ abbrev pub demands_of : Table → List Variable → List Demand
 demands_of table parameters = map (λ parameter. demand_of_mode table parameter.mode parameter.type) parameters
 
 -- the arguments as they are passed
-abbrev pub passed_place : Passed → Option Place → Passed
-passed_place before None = before
-passed_place before (Some place) = typed.reference before place
+abbrev pub passed_place : Option Place → Passed → Passed
+passed_place None others = others
+passed_place (Some place) others = typed.reference place others
 
-abbrev pub passed_by : Passed → Mode → PasType → Value → Passed
-passed_by before by_name type value = passed_place before (place_in value)
-passed_by before mode type value = typed.value before type value
+abbrev pub passed_by : Mode → PasType → Value → Passed → Passed
+passed_by by_name type value others = passed_place (place_in value) others
+passed_by mode type value others = typed.value type value others
 
-abbrev pub passed_to : Passed → List Variable → List Value → Passed
-passed_to before (parameter ∷ parameters) (value ∷ values) =
-    passed_to (passed_by before parameter.mode parameter.type value) parameters values
-passed_to before parameters values = before
+abbrev pub passed_to : List Variable → List Value → Passed
+passed_to (parameter ∷ parameters) (value ∷ values) =
+    passed_by parameter.mode parameter.type value (passed_to parameters values)
+passed_to parameters values = typed.nothing
 
 abbrev pub heading_of : Scopes → ℕ → Option Heading
 heading_of scopes number = option_map (λ found. found.heading) (slice_get scopes.outer.routines number)
@@ -279,7 +279,7 @@ call_with scopes number heading arguments None = judged (not_called (wrong WRONG
 call_with scopes number heading arguments (Some type) =
     let demands = demands_of scopes.outer.types heading.parameters in
     judged (called demands arguments)
-    (known (λ values. typed.call number type (passed_to typed.nothing heading.parameters values))
+    (known (λ values. typed.call number type (passed_to heading.parameters values))
     (given demands arguments))
 
 abbrev pub function_call_of : Scopes → ℕ → List Given → Option Heading → Judged Value

@@ -98,14 +98,14 @@ to_list false label = refuses (wrong WRONG_GOTO)
 abbrev pub to_program : Outer → ℕ → Judged typed.Statement
 to_program outer label =
     if has_label outer.labels label
-    then if is_last outer.last_label label then means typed.goto_last else refuses (wrong WRONG_GOTO)
+    then if is_last outer.last_label label then means (typed.goto_last 1) else refuses (wrong WRONG_GOTO)
     else refuses (wrong WRONG_LABEL)
 
 -- a goto in the main block, and one in a routine, of which the labels hide those of the program
 abbrev pub goto_in : Outer → Option Inner → List ℕ → ℕ → Judged typed.Statement
 goto_in outer None around label =
     if has_label outer.labels label
-    then if is_last outer.last_label label then means typed.goto_last else to_list (has_label around label) label
+    then if is_last outer.last_label label then means (typed.goto_last 0) else to_list (has_label around label) label
     else refuses (wrong WRONG_LABEL)
 goto_in outer (Some inner) around label =
     if has_label inner.labels label then to_list (has_label around label) label else to_program outer label

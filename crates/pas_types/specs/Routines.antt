@@ -201,7 +201,7 @@ headed outer head = headed_by outer head (awaited outer head)
 -- whether a statement gives the function its result
 abbrev mutual
   pub gives_result : typed.Statement → Bool
-  gives_result (typed.sets_result type value) = true
+  gives_result (typed.sets_result number type value) = true
   gives_result (typed.compound list) = list_gives_result list
   gives_result (typed.if_then test s) = gives_result s
   gives_result (typed.if_else test s t) = gives_result s || gives_result t
@@ -213,12 +213,12 @@ abbrev mutual
   gives_result other = false
 
   pub list_gives_result : typed.Statements → Bool
-  list_gives_result (typed.one label s) = gives_result s
-  list_gives_result (typed.more list label s) = list_gives_result list || gives_result s
+  list_gives_result typed.no_statements = false
+  list_gives_result (typed.item label s list) = gives_result s || list_gives_result list
 
   pub arm_gives_result : typed.Arms → Bool
-  arm_gives_result (typed.one_arm values s) = gives_result s
-  arm_gives_result (typed.more_arms arms values s) = arm_gives_result arms || gives_result s
+  arm_gives_result typed.no_arms = false
+  arm_gives_result (typed.arm values s arms) = gives_result s || arm_gives_result arms
 
 -- each label of the block stands in it
 abbrev pub all_stand : List ℕ → List ℕ → Bool

@@ -1,6 +1,6 @@
 -- Statements (ISO 7185, 6.8, in this project's profile): what they mean, and the faults of their tokens.
 use Rattle.std.specs.Prelude.{ℕ, ◌==◌, ◌&&◌, ℤ, int_le, Bool, true, false, not, if◌then◌else◌}
-use Rattle.std.specs.Prelude.{List, [], ◌∷◌, ◌++◌, Option, Some, None, is_some, option_and_then, unwrap_or}
+use Rattle.std.specs.Prelude.{List, [], ◌∷◌, ◌++◌, Option, Some, None, is_some, option_and_then, unwrap_or, length}
 use Rattle.std.specs.List.{list_any}
 use Rattle.wb_base.specs.declared.faults.TheConstants.{UNKNOWN_NAME, DUPLICATE_NAME, WRONG_TYPE}
 use Rattle.pas_tokens.specs.Cutting.{Wrong, wrong}
@@ -22,33 +22,31 @@ use Rattle.pas_types.specs.Calls as calls
 
 -- assignments
 
--- what is assigned to: a place, or the result of the function in whose body it stands
+-- what is assigned to: a place, or the result of the function in whose body it stands, which has this number behind the
+-- function's variables
 pub data Target : Type 0 where
   place : Place → Target
-  result : PasType → Target
+  result : ℕ → PasType → Target
 
 abbrev pub type_of_target : Target → PasType
 type_of_target (place found) = type_of_place found
-type_of_target (result type) = type
+type_of_target (result number type) = type
 
-abbrev pub target_result : Option PasType → Judged Target
-target_result None = refuses (wrong WRONG_TYPE)
-target_result (Some type) = means (result type)
+abbrev pub target_result : Inner → Option PasType → Judged Target
+target_result inner None = refuses (wrong WRONG_TYPE)
+target_result inner (Some type) = means (result (length inner.variables) type)
 
-abbrev pub is_inside : Option Inner → ℕ → Bool
-is_inside None number = false
-is_inside (Some inner) number = inner.number == number
-
-abbrev pub target_routine : Scopes → ℕ → Judged Target
-target_routine scopes number =
-    if is_inside scopes.inner number
-    then target_result (option_and_then (λ heading. heading.result) (heading_of scopes number))
+abbrev pub target_routine : Scopes → Option Inner → ℕ → Judged Target
+target_routine scopes None number = refuses (wrong WRONG_TYPE)
+target_routine scopes (Some inner) number =
+    if inner.number == number
+    then target_result inner (option_and_then (λ heading. heading.result) (heading_of scopes number))
     else refuses (wrong WRONG_TYPE)
 
 abbrev pub target_named : Scopes → Option Entity → Judged Target
 target_named scopes None = refuses (wrong UNKNOWN_NAME)
 target_named scopes (Some (variable slot)) = means (place (typed.slot slot))
-target_named scopes (Some (routine number)) = target_routine scopes number
+target_named scopes (Some (routine number)) = target_routine scopes scopes.inner number
 target_named scopes (Some unclear) = judged quiet None
 target_named scopes (Some entity) = refuses (wrong WRONG_TYPE)
 
@@ -62,7 +60,7 @@ target_of scopes found = target_place (place_of scopes found)
 -- nothing is assigned to a file
 abbrev pub is_file_target : Table → Target → Bool
 is_file_target table (place found) = is_file table found
-is_file_target table (result type) = false
+is_file_target table (result number type) = false
 
 abbrev pub assigned_only : Table → Target → List Wrong
 assigned_only table target = unless (not (is_file_target table target)) (wrong WRONG_TYPE)
@@ -73,7 +71,7 @@ fits_target table (Some target) value = compatible_with table (type_of_target ta
 
 abbrev pub assigned : Target → Value → typed.Statement
 assigned (place found) value = typed.assigns found value
-assigned (result type) value = typed.sets_result type value
+assigned (result number type) value = typed.sets_result number type value
 
 abbrev pub assignment_of : Table → Judged Target → Judged Value → Judged typed.Statement
 assignment_of table target value =
@@ -86,7 +84,16 @@ assignment_of table target value =
 -- a body as a list
 abbrev pub list_of : typed.Statement → typed.Statements
 list_of (typed.compound list) = list
-list_of statement = typed.one None statement
+list_of statement = typed.item None statement typed.no_statements
+
+-- statements, and elements of a case, with one more behind them
+abbrev pub with_statement : Option ℕ → typed.Statements → typed.Statement → typed.Statements
+with_statement label typed.no_statements s = typed.item label s typed.no_statements
+with_statement label (typed.item own first list) s = typed.item own first (with_statement label list s)
+
+abbrev pub with_arm : Arms → List ℤ → typed.Statement → Arms
+with_arm typed.no_arms values s = typed.arm values s typed.no_arms
+with_arm (typed.arm own first arms) values s = typed.arm own first (with_arm arms values s)
 
 abbrev pub condition : Table → Judged Value → Judged Value
 condition table value = checked (only boolean table) value
@@ -198,10 +205,10 @@ module _ (scopes : Scopes) where
         judged (joined (quiet ∷ test.marks ∷ quiet ∷ then_part.marks ∷ quiet ∷ else_part.marks ∷ []))
         (known_of (both (λ value one other. typed.if_else value one other) test.value then_part.value)
         else_part.value)
-    plain_of around before (tree.case line expr of_line elements others end) =
+    plain_of around before (tree.case line expr of_line elements tail end) =
         let selector = checked (ordinal_only scopes.outer.types) (value_of scopes expr) in
         let arms = arms_of around before (base_of_value scopes.outer.types selector.value) elements in
-        let rest = others_of around (before ++ labels_in_elements elements) others in
+        let rest = others_of around (before ++ labels_in_elements elements) tail in
         judged (joined (quiet ∷ selector.marks ∷ quiet ∷ arms.marks ∷ rest.marks ∷ quiet ∷ []))
         (known_of (known_of rest.value selector.value) arms.value)
     plain_of around before (tree.while line expr do_line s) =
@@ -230,26 +237,24 @@ module _ (scopes : Scopes) where
     pub statements_of : List ℕ → List ℕ → Statements → Judged typed.Statements
     statements_of around before (tree.first_statement s) =
         let found = statement_of in_list around before s in
-        judged found.marks (known (typed.one (label_of s)) found.value)
+        judged found.marks (known (with_statement (label_of s) typed.no_statements) found.value)
     statements_of around before (tree.more_statements list line s) =
         let found = statements_of around before list in
         let last = statement_of in_list around (before ++ labels_in_list list) s in
         judged (joined (found.marks ∷ quiet ∷ last.marks ∷ []))
-        (both (λ statements statement. typed.more statements (label_of s) statement) found.value last.value)
+        (both (with_statement (label_of s)) found.value last.value)
 
     pub arms_of : List ℕ → List ℕ → Option Base → Elements → Judged Arms
     arms_of around before base (tree.first_element constants colon s) =
         let values = constants_of scopes base [] constants in
         let found = statement_of elsewhere around before s in
-        judged (joined (values.marks ∷ quiet ∷ found.marks ∷ [])) (both typed.one_arm values.value found.value)
+        judged (joined (values.marks ∷ quiet ∷ found.marks ∷ [])) (both (with_arm typed.no_arms) values.value found.value)
     arms_of around before base (tree.more_elements elements line constants colon s) =
         let arms = arms_of around before base elements in
         let values = constants_of scopes base (constants_in scopes elements) constants in
         let found = statement_of elsewhere around (before ++ labels_in_elements elements) s in
         judged (joined (arms.marks ∷ quiet ∷ values.marks ∷ quiet ∷ found.marks ∷ []))
-        (known_of (both (λ others numbers statement. typed.more_arms others numbers statement) arms.value
-        values.value)
-        found.value)
+        (known_of (both with_arm arms.value values.value) found.value)
 
     -- what stands behind the elements makes a case of a selector and arms
     pub others_of : List ℕ → List ℕ → Others → Judged (Value → Arms → typed.Statement)

@@ -70,11 +70,11 @@ mutual
     field : Place → ℕ → PasType → Place
     buffer : Place → PasType → Place
 
-  -- the arguments of a call, the last one outermost: a value for a parameter of this type, or a place for one by name
+  -- the arguments of a call: a value for a parameter of this type, or a place for one by name, and the others
   pub data Passed : Type 0 where
     nothing : Passed
-    value : Passed → PasType → Value → Passed
-    reference : Passed → Place → Passed
+    value : PasType → Value → Passed → Passed
+    reference : Place → Passed → Passed
 
 -- an item that is written on a text, with its width if one is given
 pub data Item : Type 0 where
@@ -82,12 +82,13 @@ pub data Item : Type 0 where
   char_item : Value → Option Value → Item
   string_item : List ℕ → Option Value → Item
 
--- statements. The body of a loop is the list of a compound, or of one statement
+-- statements. The body of a loop is the list of a compound, or of one statement. A result is the cell behind the
+-- variables of its function, by number; a goto to the last label halts with a status
 mutual
   pub data Statement : Type 0 where
     empty : Statement
     assigns : Place → Value → Statement
-    sets_result : PasType → Value → Statement
+    sets_result : ℕ → PasType → Value → Statement
     calls : ℕ → Passed → Statement
     compound : Statements → Statement
     if_then : Value → Statement → Statement
@@ -98,7 +99,7 @@ mutual
     repeat : Statements → Value → Statement
     for : Slot → Way → Value → Value → Statements → Statement
     goto : ℕ → Statement
-    goto_last : Statement
+    goto_last : ℕ → Statement
     file_step : FileStep → Place → Statement
     reads : Place → List Place → Statement
     reads_line : Place → List Place → Statement
@@ -107,15 +108,15 @@ mutual
     writes_bytes : Place → List Value → Statement
     halts : Value → Statement
 
-  -- statements one after another, the last one outermost, each with its label if it has one
+  -- a statement with its label, if it has one, and those behind it
   pub data Statements : Type 0 where
-    one : Option ℕ → Statement → Statements
-    more : Statements → Option ℕ → Statement → Statements
+    no_statements : Statements
+    item : Option ℕ → Statement → Statements → Statements
 
-  -- the elements of a case, the last one outermost, each with its constants
+  -- an element of a case with its constants, and those behind it
   pub data Arms : Type 0 where
-    one_arm : List ℤ → Statement → Arms
-    more_arms : Arms → List ℤ → Statement → Arms
+    no_arms : Arms
+    arm : List ℤ → Statement → Arms → Arms
 
 -- what a heading tells of a routine: the type of its result, if it is a function, and its parameters
 pub record Heading : Type 0 where
