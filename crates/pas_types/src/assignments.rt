@@ -3,19 +3,20 @@
 use crate::expressions::value_of;
 use crate::judged::Judged;
 use crate::scopes::{Entity, Scopes};
-use crate::stop::{Stop, fault};
-use crate::typed::{Place, Statement};
+use crate::stop::{Stop, count_of, fault};
+use crate::typed::{Heading, Place, Statement};
 use crate::types::PasType;
 use crate::variables::{place_of, whole};
 use pas_syntax::tree::{Assignment, Ident, Variable};
 use sqlite_items::Boxed;
 use wb_base::faults::{UNKNOWN_NAME, WRONG_TYPE};
 
-// What is assigned to: a place, or the result of the function in whose body it stands.
+// What is assigned to: a place, or the result of the function in whose body it stands, which has this number behind
+// the function's variables.
 #[derive(Drop)]
 enum Target {
     Place(Place),
-    Result(PasType),
+    Result(u32, PasType),
 }
 
 impl Target {
@@ -23,7 +24,7 @@ impl Target {
     fn pas_type(&self) -> PasType {
         match self {
             Target::Place(place) => place.pas_type(),
-            Target::Result(pas_type) => *pas_type,
+            Target::Result(_, pas_type) => *pas_type,
         }
     }
 }
@@ -46,9 +47,9 @@ pub(crate) fn assignment_of(
     let value = Boxed::new(scopes.alloc, value)?;
     match target {
         Target::Place(place) => { Ok(Statement::Assigns(Boxed::new(scopes.alloc, place)?, value)) }
-        Target::Result(pas_type) => {
+        Target::Result(number, pas_type) => {
             scopes.set_result();
-            Ok(Statement::SetsResult(pas_type, value))
+            Ok(Statement::SetsResult(number, pas_type, value))
         }
     }
 }
@@ -70,19 +71,26 @@ fn target_of(scopes: &Scopes<'_>, variable: &Variable) -> Result<Judged<Target>,
 fn target_named(scopes: &Scopes<'_>, ident: Ident) -> Result<Target, Stop> {
     match scopes.named(ident) {
         Some(Entity::Variable(slot)) => Ok(Target::Place(whole(scopes, slot))),
-        Some(Entity::Routine(number)) => match result_inside(scopes, number) {
-            Some(pas_type) => Ok(Target::Result(pas_type)),
-            None => Err(fault(WRONG_TYPE, ident.line)),
-        },
+        Some(Entity::Routine(number)) => result_of(scopes, ident, number),
         Some(_) => Err(fault(WRONG_TYPE, ident.line)),
         None => Err(fault(UNKNOWN_NAME, ident.line)),
     }
 }
 
-// The type of the result of a routine, if it is the function in whose body the place is.
-fn result_inside(scopes: &Scopes<'_>, number: u32) -> Option<PasType> {
-    match &scopes.inner {
-        Some(inner) if inner.number == number => scopes.heading_of(number)?.result,
-        _ => None,
+// What the name of a routine means as a target: its result, if it is the function in whose body this is.
+fn result_of(scopes: &Scopes<'_>, ident: Ident, number: u32) -> Result<Target, Stop> {
+    match (&scopes.inner, scopes.heading_of(number)) {
+        (
+            Some(inner),
+            Some(
+                Heading {
+                    result: Some(pas_type),
+                    ..
+                },
+            ),
+        ) if inner.number == number => {
+            Ok(Target::Result(count_of(inner.variables.len())?, *pas_type))
+        }
+        _ => Err(fault(WRONG_TYPE, ident.line)),
     }
 }

@@ -35,7 +35,6 @@ pub(crate) fn case_of(
         taken: IndexSet::new(scopes.alloc),
     };
     let arms = arms_of(scopes, &mut choices, elements, line_of_others(others, end))?;
-    let arms = Boxed::new(scopes.alloc, arms)?;
     match others {
         Others::Others(_, chosen, semicolon) => {
             let behind = semicolon.unwrap_or(end);
@@ -75,16 +74,14 @@ fn arms_of(
     elements: &Elements,
     end: u32,
 ) -> Result<Arms, Stop> {
-    let mut more = Items::new(scopes.alloc);
-    let first = before(
-        line_behind(elements, 0, end),
-        arm_of(scopes, choices, &elements.first),
-    )?;
+    let mut arms = Items::new(scopes.alloc);
+    let first = arm_of(scopes, choices, &elements.first);
+    arms.push(before(line_behind(elements, 0, end), first)?)?;
     for (index, next) in elements.more.as_slice().iter().enumerate() {
         let behind = line_behind(elements, index + 1, end);
-        more.push(before(behind, arm_of(scopes, choices, &next.element))?)?;
+        arms.push(before(behind, arm_of(scopes, choices, &next.element))?)?;
     }
-    Ok(Arms { first, more })
+    Ok(arms)
 }
 
 // The line of the token behind an element of a case.

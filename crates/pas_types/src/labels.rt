@@ -171,7 +171,8 @@ pub(crate) fn goto_of(scopes: &Scopes<'_>, numeral: Numeral) -> Result<TypedStat
         inner => {
             demand(scopes.labels.has(label), WRONG_LABEL, numeral.line)?;
             if scopes.last_label == Some(label) {
-                return Ok(TypedStatement::GotoLast);
+                let status = if inner.is_none() { 0 } else { 1 };
+                return Ok(TypedStatement::GotoLast(status));
             }
             demand(inner.is_none(), WRONG_GOTO, numeral.line)?;
             to_list(&scopes.labels, numeral)

@@ -30,13 +30,13 @@ pub(crate) fn statements_of(
 // What the statements of a list mean, of which the labels are known.
 #[cycle(statement)]
 fn in_turn(scopes: &mut Scopes<'_>, list: &StatementsTree) -> Result<Statements, Stop> {
-    let mut more = Items::new(scopes.alloc);
-    let first = maybe_before(line_behind(list, 0), labelled(scopes, &list.first))?;
+    let mut statements = Items::new(scopes.alloc);
+    statements.push(maybe_before(line_behind(list, 0), labelled(scopes, &list.first))?)?;
     for (index, next) in list.more.as_slice().iter().enumerate() {
         let behind = line_behind(list, index + 1);
-        more.push(maybe_before(behind, labelled(scopes, &next.statement))?)?;
+        statements.push(maybe_before(behind, labelled(scopes, &next.statement))?)?;
     }
-    Ok(Statements { first, more })
+    Ok(statements)
 }
 
 // The line of the semicolon behind a statement of a list, if there is one.
@@ -91,7 +91,7 @@ fn plain_of(scopes: &mut Scopes<'_>, plain: &Plain) -> Result<Statement, Stop> {
         Plain::Call(call) => call_of(scopes, call.get()),
         Plain::Compound(body) => {
             let list = before(body.get().end, statements_of(scopes, &body.get().list))?;
-            Ok(Statement::Compound(Boxed::new(scopes.alloc, list)?))
+            Ok(Statement::Compound(list))
         }
         Plain::If(guard, chosen) => {
             let test = test_of(scopes, guard.get())?;
@@ -115,7 +115,6 @@ fn plain_of(scopes: &mut Scopes<'_>, plain: &Plain) -> Result<Statement, Stop> {
         }
         Plain::Repeat(_, list, until) => {
             let list = before(until.get().line, statements_of(scopes, list.get()))?;
-            let list = Boxed::new(scopes.alloc, list)?;
             Ok(Statement::Repeat(list, condition(scopes, &until.get().item)?))
         }
         Plain::For(head, body) => {
@@ -141,16 +140,16 @@ fn condition(scopes: &Scopes<'_>, expr: &Expr) -> Result<Boxed<Value>, Stop> {
 }
 
 // The body of a loop as a list.
-fn body_of(scopes: &Scopes<'_>, statement: Statement) -> Result<Boxed<Statements>, Stop> {
+fn body_of(scopes: &Scopes<'_>, statement: Statement) -> Result<Statements, Stop> {
     match statement {
         Statement::Compound(list) => Ok(list),
         statement => {
-            let first = Labelled {
+            let mut list = Items::new(scopes.alloc);
+            list.push(Labelled {
                 label: None,
                 statement,
-            };
-            let more = Items::new(scopes.alloc);
-            Ok(Boxed::new(scopes.alloc, Statements { first, more })?)
+            })?;
+            Ok(list)
         }
     }
 }

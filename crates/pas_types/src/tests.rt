@@ -532,7 +532,7 @@ fn makes_typed_programs(rt: HostRuntime) -> Result<(), Fail> {
     assert_eq!(rt; typed.types.rows().len(), 4);
     assert_eq!(rt; typed.globals.len(), 3);
     assert_eq!(rt; typed.headings.len(), 2);
-    assert_eq!(rt; typed.statements.more.len(), 1);
+    assert_eq!(rt; typed.statements.len(), 2);
     let routines = [1u32, 0];
     let variables = [0usize, 2];
     assert_eq!(rt; typed.bodies.len(), 2);

@@ -244,6 +244,12 @@ pub struct Counted {
     pub last: Value,
 }
 
+/// Statements one after another.
+pub type Statements = Items<Labelled>;
+
+/// The elements of a `case`.
+pub type Arms = Items<Arm>;
+
 /// A statement. The body of a loop is the list of a compound, or of one statement.
 #[cycle(statement)]
 #[derive(Drop)]
@@ -252,30 +258,31 @@ pub enum Statement {
     Empty,
     /// A value is assigned to a place.
     Assigns(Boxed<Place>, Boxed<Value>),
-    /// A value becomes the result of a function, which is of this type.
-    SetsResult(PasType, Boxed<Value>),
+    /// A value becomes the result of a function, which is the cell with this number behind its variables, and of this
+    /// type.
+    SetsResult(u32, PasType, Boxed<Value>),
     /// The routine of this number is called.
     Calls(u32, Items<Passed>),
     /// A compound.
-    Compound(Boxed<Statements>),
+    Compound(Statements),
     /// `if` without `else`.
     If(Boxed<Value>, Boxed<Statement>),
     /// `if` with `else`.
     IfElse(Boxed<Value>, Boxed<Statement>, Boxed<Statement>),
     /// `case` without `others`.
-    Case(Boxed<Value>, Boxed<Arms>),
+    Case(Boxed<Value>, Arms),
     /// `case` with `others`.
-    CaseOthers(Boxed<Value>, Boxed<Arms>, Boxed<Statement>),
+    CaseOthers(Boxed<Value>, Arms, Boxed<Statement>),
     /// `while`.
-    While(Boxed<Value>, Boxed<Statements>),
+    While(Boxed<Value>, Statements),
     /// `repeat`.
-    Repeat(Boxed<Statements>, Boxed<Value>),
+    Repeat(Statements, Boxed<Value>),
     /// `for`.
-    For(Boxed<Counted>, Boxed<Statements>),
+    For(Boxed<Counted>, Statements),
     /// `goto` to a label of a list around it.
     Goto(u32),
-    /// `goto` to the program's last label.
-    GotoLast,
+    /// `goto` to the program's last label, which halts with this status.
+    GotoLast(u32),
     /// A step of a file.
     Steps(FileStep, Boxed<Place>),
     /// `read` from a file into places.
@@ -292,16 +299,6 @@ pub enum Statement {
     Halts(Boxed<Value>),
 }
 
-/// Statements one after another.
-#[cycle(statement)]
-#[derive(Drop)]
-pub struct Statements {
-    /// The first.
-    pub first: Labelled,
-    /// The others.
-    pub more: Items<Labelled>,
-}
-
 /// A statement of a list, with its label if it has one.
 #[cycle(statement)]
 #[derive(Drop)]
@@ -310,16 +307,6 @@ pub struct Labelled {
     pub label: Option<u32>,
     /// The statement.
     pub statement: Statement,
-}
-
-/// The elements of a `case`.
-#[cycle(statement)]
-#[derive(Drop)]
-pub struct Arms {
-    /// The first.
-    pub first: Arm,
-    /// The others.
-    pub more: Items<Arm>,
 }
 
 /// An element of a `case`.
