@@ -5,7 +5,7 @@ use crate::labels::Labels;
 use crate::limits::ROUTINE_LIMIT;
 use crate::scopes::{Entity, Inner, KnownRoutine, Scopes, idents_of};
 use crate::statements::statements_of;
-use crate::stop::{Stop, before, demand, fault};
+use crate::stop::{Stop, before, count_of, demand, fault};
 use crate::type_forms::type_named;
 use crate::typed::{Body as TypedBody, Heading as TypedHeading, Mode};
 use crate::types::PasType;
@@ -123,7 +123,7 @@ fn first_heading(scopes: &mut Scopes<'_>, head: &HeadingParts<'_>) -> Result<u32
     let count = scopes.routines.len();
     demand(!is_taken(scopes, name), DUPLICATE_NAME, head.name.line)?;
     demand(count < ROUTINE_LIMIT as usize, TOO_LARGE, head.name.line)?;
-    let number = count as u32;
+    let number = count_of(count)?;
     scopes.inner = Some(Inner::new(scopes.alloc, number));
     formals_of(scopes, head.parameters)?;
     let result = result_of(scopes, head)?;

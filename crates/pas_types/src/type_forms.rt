@@ -72,7 +72,7 @@ fn with_sign(sign: Sign, found: Ordinal) -> Ordinal {
     match sign {
         Sign::Plus => found,
         Sign::Minus => Ordinal {
-            value: -found.value,
+            value: found.value.wrapping_neg(),
             ..found
         },
     }

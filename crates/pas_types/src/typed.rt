@@ -367,6 +367,6 @@ pub struct Typed {
 impl Typed {
     /// How many files the program has.
     pub fn file_count(&self) -> u32 {
-        self.files.len() as u32
+        u32::try_from(self.files.len()).unwrap_or(u32::MAX)
     }
 }
