@@ -17,7 +17,7 @@ use Rattle.pas_meaning.specs.Outcome.{led, stepped, take_step}
 use Rattle.pas_meaning.specs.FileSteps.{change_file, append}
 use Rattle.pas_meaning.specs.Store as store
 use Rattle.pas_meaning.specs.Store.{Datum, Store, holds}
-use Rattle.pas_meaning.specs.Arithmetic.{is_true, is_same, within_maxint}
+use Rattle.pas_meaning.specs.Arithmetic.{is_true, is_same}
 use Rattle.pas_meaning.specs.Run as run
 use Rattle.pas_meaning.specs.Run.{Flow, Entry, Doings, Argument, number_of}
 use Rattle.pas_meaning.specs.Laws.{world_of, Goes, Same}
@@ -65,6 +65,7 @@ same_if false one other = other
 same_on : {n : ℕ} (flow : Flow) {rest rest' : Doing Store Flow} → Same n rest rest'
     → Same n (run.go_on flow rest) (run.go_on flow rest')
 same_on run.next rest = rest
+same_on {n = n} run.leaves rest = same_self n _
 same_on {n = n} (run.jump label) rest = same_self n _
 
 same_less : {S A : Type 0} {n : ℕ} {doing doing' : Doing S A} (fewer : ℕ) → fewer ≤ n → Same n doing doing'
@@ -85,11 +86,15 @@ same_step {n = n} {next = next} {next' = next'} same = record {
   each = λ now few. step_same n now.world.steps now next next' refl few same;
 }
 
+same_numbered : {n : ℕ} {doing doing' : Doing Store Datum} → Goes doing → Same n doing doing'
+    → Same n (run.numbered doing) (run.numbered doing')
+same_numbered {n = n} on same = same_bind on same (λ datum. same_self n _)
+
 -- what is done with the number that an operand is
 same_operand : {A : Type 0} {n : ℕ} {operand operand' : Doing Store Datum} {next next' : ℤ → Doing Store A}
     → Goes operand → Same n operand operand' → ((found : ℤ) → Same n (next found) (next' found))
-    → Same n (operand >>= (λ datum. number_of datum >>= next)) (operand' >>= (λ datum. number_of datum >>= next'))
-same_operand on same later = same_bind on same (λ datum. same_behind (goes.goes_number datum) later)
+    → Same n (run.numbered operand >>= next) (run.numbered operand' >>= next')
+same_operand on same later = same_bind (goes.goes_numbered on) (same_numbered on same) later
 
 module _ (limit : Option ℕ) (program : TypedProgram) (b b' : Doings)
     (on : (from : Entry) (s : Statement) → Goes (b from s))
@@ -98,7 +103,7 @@ module _ (limit : Option ℕ) (program : TypedProgram) (b b' : Doings)
       → Same fewer (run.body_run limit program b body arguments) (run.body_run limit program b' body arguments)
   same_body fewer less None arguments = same_self fewer _
   same_body fewer less (Some body) arguments =
-      same_then (goes_change (λ before. store.opened (run.cells_for program.types body arguments before) before))
+      same_then (goes_change (λ before. store.opened (run.cells_for program body arguments before) before))
       (same_self fewer _) (same_bind (on run.start (typed.compound body.statements))
       (same fewer run.start (typed.compound body.statements) less) (λ flow. same_self fewer _))
 
@@ -132,8 +137,8 @@ module _ (limit : Option ℕ) (program : TypedProgram) (b b' : Doings)
     same_value (typed.negated operand) =
         same_operand (goes.goes_value limit program b on operand) (same_value operand) (λ found. same_self n _)
     same_value (typed.product left multiplying.And right) =
-        same_bind (goes.goes_value limit program b on left) (same_value left) (λ datum.
-        same_behind (goes.goes_number datum) (λ first. same_if (is_true first) (same_value right) (same_self n _)))
+        same_operand (goes.goes_value limit program b on left) (same_value left)
+        (λ first. same_if (is_true first) (same_value right) (same_self n _))
     same_value (typed.product left multiplying.Times right) =
         same_operand (goes.goes_value limit program b on left) (same_value left) (λ first.
         same_operand (goes.goes_value limit program b on right) (same_value right) (λ second. same_self n _))
@@ -144,8 +149,8 @@ module _ (limit : Option ℕ) (program : TypedProgram) (b b' : Doings)
         same_operand (goes.goes_value limit program b on left) (same_value left) (λ first.
         same_operand (goes.goes_value limit program b on right) (same_value right) (λ second. same_self n _))
     same_value (typed.addition left adding.Or right) =
-        same_bind (goes.goes_value limit program b on left) (same_value left) (λ datum.
-        same_behind (goes.goes_number datum) (λ first. same_if (is_true first) (same_self n _) (same_value right)))
+        same_operand (goes.goes_value limit program b on left) (same_value left)
+        (λ first. same_if (is_true first) (same_self n _) (same_value right))
     same_value (typed.addition left adding.Plus right) =
         same_operand (goes.goes_value limit program b on left) (same_value left) (λ first.
         same_operand (goes.goes_value limit program b on right) (same_value right) (λ second. same_self n _))
@@ -170,17 +175,18 @@ module _ (limit : Option ℕ) (program : TypedProgram) (b b' : Doings)
     pub same_arguments : (passed : Passed)
         → Same n (run.arguments_of limit program b passed) (run.arguments_of limit program b' passed)
     same_arguments typed.nothing = same_self n _
-    same_arguments (typed.value before type argument) =
-        same_bind (goes.goes_arguments limit program b on before) (same_arguments before) (λ arguments.
-        same_bind (goes.goes_value limit program b on argument) (same_value argument) (λ datum. same_self n _))
-    same_arguments (typed.reference before place) =
-        same_bind (goes.goes_arguments limit program b on before) (same_arguments before) (λ arguments.
-        same_bind (goes.goes_place limit program b on place) (same_place place) (λ spot. same_self n _))
+    same_arguments (typed.value type argument others) =
+        same_bind (goes.goes_value limit program b on argument) (same_value argument) (λ datum.
+        same_behind (goes_answered (store.fits program.types type datum)) (λ checked.
+        same_bind (goes.goes_arguments limit program b on others) (same_arguments others) (λ arguments. same_self n _)))
+    same_arguments (typed.reference place others) =
+        same_bind (goes.goes_place limit program b on place) (same_place place) (λ spot.
+        same_bind (goes.goes_arguments limit program b on others) (same_arguments others) (λ arguments. same_self n _))
 
   same_number_value : (found : Value)
       → Same n (run.number_value limit program b found) (run.number_value limit program b' found)
   same_number_value found =
-      same_bind (goes.goes_value limit program b on found) (same_value found) (λ datum. same_self n _)
+      same_numbered (goes.goes_value limit program b on found) (same_value found)
 
   -- what is done with the file that a place means
   same_file : {A : Type 0} (place : Place) {next next' : ℕ → Doing Store A}
@@ -248,53 +254,49 @@ module _ (limit : Option ℕ) (program : TypedProgram) (b b' : Doings)
   same_file_step typed.get file = same_self n _
   same_file_step typed.put file = same_self n _
 
-  same_landed : (list : Statements) (entry : ℕ → Entry) (around : Statement) {rest rest' : Doing Store Flow}
-      (flow : Flow) → Same n rest rest'
-      → Same n (run.landed limit program b list entry around rest flow)
-      (run.landed limit program b' list entry around rest' flow)
-  same_landed list entry around run.next rest = rest
-  same_landed list entry around (run.jump label) rest =
-      same_if (run.has_label list label) (same_step (λ fewer less. same fewer (entry label) around less))
-      (same_self n _)
-
   same_again : (entry : Entry) (s : Statement) → Same n (take_step >> b entry s) (take_step >> b' entry s)
   same_again entry s = same_step (λ fewer less. same fewer entry s less)
 
-  same_until : (list : Statements) (test : Value)
-      → Same n (run.until limit program b list test) (run.until limit program b' list test)
-  same_until list test =
+  same_entered : (list : Statements) (entry : ℕ → Entry) (around : Statement) (label : ℕ)
+      → Same n (run.entered limit program b list entry around label)
+      (run.entered limit program b' list entry around label)
+  same_entered list entry around label =
+      same_if (run.has_label list label) (same_again (entry label) around) (same_self n _)
+
+  same_behind_list : (list : Statements) (around : Statement) (flow : Flow)
+      → Same n (run.behind_list limit program b list around flow) (run.behind_list limit program b' list around flow)
+  same_behind_list list around run.next = same_self n _
+  same_behind_list list around run.leaves = same_self n _
+  same_behind_list list around (run.jump label) = same_entered list run.at around label
+
+  same_looped : (list : Statements) (entry : ℕ → Entry) (turning : Entry) (loop : Statement) (flow : Flow)
+      → Same n (run.looped limit program b list entry turning loop flow)
+      (run.looped limit program b' list entry turning loop flow)
+  same_looped list entry turning loop run.next = same_again turning loop
+  same_looped list entry turning loop run.leaves = same_self n _
+  same_looped list entry turning loop (run.jump label) = same_entered list entry loop label
+
+  same_while_turn : (test : Value) {list list' : Doing Store Flow} → Same n list list'
+      → Same n (run.while_turn limit program b test list) (run.while_turn limit program b' test list')
+  same_while_turn test list =
       same_bind (goes.goes_number_value limit program b on test) (same_number_value test)
-      (λ found. same_if (is_true found) (same_self n _) (same_again run.again (typed.repeat list test)))
+      (λ found. same_if (is_true found) list (same_self n _))
 
-  same_behind_repeat : (list : Statements) (test : Value) (flow : Flow)
-      → Same n (run.behind_repeat limit program b list test flow) (run.behind_repeat limit program b' list test flow)
-  same_behind_repeat list test flow = same_landed list run.at (typed.repeat list test) flow (same_until list test)
+  same_until : (test : Value) → Same n (run.until limit program b test) (run.until limit program b' test)
+  same_until test =
+      same_bind (goes.goes_number_value limit program b on test) (same_number_value test) (λ found. same_self n _)
 
-  same_behind_while : (test : Value) (list : Statements) (flow : Flow)
-      → Same n (run.behind_while limit program b test list flow) (run.behind_while limit program b' test list flow)
-  same_behind_while test list flow =
-      same_landed list run.at (typed.while test list) flow (same_again run.again (typed.while test list))
+  same_repeat_turn : (test : Value) {list list' : Doing Store Flow} → Goes list → Same n list list'
+      → Same n (run.repeat_turn limit program b test list) (run.repeat_turn limit program b' test list')
+  same_repeat_turn test on_list list = same_bind on_list list (λ flow. same_on flow (same_until test))
 
-  same_while_turn : (test : Value) (list : Statements) {body body' : Doing Store Flow} → Goes body → Same n body body'
-      → Same n (run.while_turn limit program b test list body) (run.while_turn limit program b' test list body')
-  same_while_turn test list on_body body =
-      same_bind (goes.goes_number_value limit program b on test) (same_number_value test) (λ found.
-      same_if (is_true found) (same_bind on_body body (same_behind_while test list)) (same_self n _))
+  same_counted : (slot : Slot) (way : Way) (last : ℤ)
+      → Same n (run.counted limit program b slot way last) (run.counted limit program b' slot way last)
+  same_counted slot way last = same_self n _
 
-  same_next_turn : (slot : Slot) (way : Way) (last : ℤ) (loop : Statement)
-      → Same n (run.next_turn limit program b slot way last loop) (run.next_turn limit program b' slot way last loop)
-  same_next_turn slot way last loop =
-      same_behind (goes_ask (λ found. store.number_at (store.home_of slot found) found)) (λ found.
-      same_if (is_same found last) (same_self n _)
-      (same_behind (goes_answered (within_maxint (run.next_value way found))) (λ following.
-      same_then (goes.goes_store program.types slot.type (run.part slot []) (holds following)) (same_self n _)
-      (same_again (run.turn last) loop))))
-
-  same_behind_turn : (slot : Slot) (way : Way) (last : ℤ) (list : Statements) (loop : Statement) (flow : Flow)
-      → Same n (run.behind_turn limit program b slot way last list loop flow)
-      (run.behind_turn limit program b' slot way last list loop flow)
-  same_behind_turn slot way last list loop flow =
-      same_landed list (run.turn_at last) loop flow (same_next_turn slot way last loop)
+  same_for_turn : (slot : Slot) (way : Way) (last : ℤ) {list list' : Doing Store Flow} → Goes list → Same n list list'
+      → Same n (run.for_turn limit program b slot way last list) (run.for_turn limit program b' slot way last list')
+  same_for_turn slot way last on_list list = same_bind on_list list (λ flow. same_on flow (same_counted slot way last))
 
   same_for : (slot : Slot) (way : Way) (first last : ℤ) (turns turns' : Doing Store Flow) → Goes turns
       → Same n turns turns'
@@ -304,7 +306,7 @@ module _ (limit : Option ℕ) (program : TypedProgram) (b b' : Doings)
       same_if (run.is_past way first last) (same_self n _)
       (same_behind (goes_answered (store.fits program.types slot.type (holds first))) (λ low.
       same_behind (goes_answered (store.fits program.types slot.type (holds last))) (λ high.
-      same_then (goes.goes_store program.types slot.type (run.part slot []) low) (same_self n _)
+      same_then (goes_change (λ found. store.stored (store.home_of slot found) low found)) (same_self n _)
       (same_bind on_turns both (λ flow. same_self n _)))))
 
   same_first : {A : Type 0} {next next' : Doing Store A} → Same n next next'
@@ -319,10 +321,14 @@ module _ (limit : Option ℕ) (program : TypedProgram) (b b' : Doings)
       same_bind (goes.goes_number_value limit program b on first) (same_number_value first) (λ low.
       same_bind (goes.goes_number_value limit program b on last) (same_number_value last) (λ high.
       same_for slot way low high _ _
-      (goes_then goes_step (goes_bind (goes.goes_list limit program b on None list)
-      (goes.goes_behind_turn limit program b on slot way high list (typed.for slot way first last list))))
-      (same_first (same_bind (goes.goes_list limit program b on None list) body
-      (same_behind_turn slot way high list (typed.for slot way first last list))))))
+      (goes_then goes_step (goes_bind (goes.goes_for_turn limit program b on slot way high
+      (goes.goes_list limit program b on None list))
+      (goes.goes_looped limit program b on list (run.turn_at high) (run.turn high)
+      (typed.for slot way first last list))))
+      (same_first (same_bind (goes.goes_for_turn limit program b on slot way high
+      (goes.goes_list limit program b on None list))
+      (same_for_turn slot way high (goes.goes_list limit program b on None list) body)
+      (same_looped list (run.turn_at high) (run.turn high) (typed.for slot way first last list))))))
 
   mutual
     pub same_statement : (from : Entry) (s : Statement)
@@ -331,14 +337,14 @@ module _ (limit : Option ℕ) (program : TypedProgram) (b b' : Doings)
     same_statement from (typed.assigns place right) =
         same_bind (goes.goes_value limit program b on right) (same_value right) (λ datum.
         same_bind (goes.goes_place limit program b on place) (same_place place) (λ spot. same_self n _))
-    same_statement from (typed.sets_result type right) =
+    same_statement from (typed.sets_result cell type right) =
         same_bind (goes.goes_value limit program b on right) (same_value right) (λ datum. same_self n _)
     same_statement from (typed.calls routine passed) =
         same_bind (goes.goes_arguments limit program b on passed) (same_arguments passed) (λ arguments.
         same_then (goes.goes_call limit program b on routine arguments) (same_call routine arguments) (same_self n _))
     same_statement from (typed.compound list) =
         same_bind (goes.goes_list limit program b on (run.label_in from) list) (same_list (run.label_in from) list)
-        (λ flow. same_landed list run.at (typed.compound list) flow (same_self n _))
+        (same_behind_list list (typed.compound list))
     same_statement from (typed.if_then test s) =
         same_bind (goes.goes_number_value limit program b on test) (same_number_value test)
         (λ found. same_if (is_true found) (same_statement run.start s) (same_self n _))
@@ -352,33 +358,50 @@ module _ (limit : Option ℕ) (program : TypedProgram) (b b' : Doings)
         same_bind (goes.goes_number_value limit program b on selector) (same_number_value selector)
         (λ found. same_arm found arms (same_statement run.start s))
     same_statement run.again (typed.while test list) =
-        same_while_turn test list (goes.goes_list limit program b on None list) (same_list None list)
+        same_bind (goes.goes_while_turn limit program b on test (goes.goes_list limit program b on None list))
+        (same_while_turn test (same_list None list)) (same_looped list run.at run.again (typed.while test list))
     same_statement (run.at label) (typed.while test list) =
         same_bind (goes.goes_list limit program b on (Some label) list) (same_list (Some label) list)
-        (same_behind_while test list)
-    same_statement run.start (typed.while test list) =
-        same_first (same_while_turn test list (goes.goes_list limit program b on None list) (same_list None list))
-    same_statement (run.turn last) (typed.while test list) =
-        same_first (same_while_turn test list (goes.goes_list limit program b on None list) (same_list None list))
-    same_statement (run.turn_at last label) (typed.while test list) =
-        same_first (same_while_turn test list (goes.goes_list limit program b on None list) (same_list None list))
+        (same_looped list run.at run.again (typed.while test list))
+    same_statement run.start (typed.while test list) = same_first
+        (same_bind (goes.goes_while_turn limit program b on test (goes.goes_list limit program b on None list))
+        (same_while_turn test (same_list None list)) (same_looped list run.at run.again (typed.while test list)))
+    same_statement (run.turn last) (typed.while test list) = same_first
+        (same_bind (goes.goes_while_turn limit program b on test (goes.goes_list limit program b on None list))
+        (same_while_turn test (same_list None list)) (same_looped list run.at run.again (typed.while test list)))
+    same_statement (run.turn_at last label) (typed.while test list) = same_first
+        (same_bind (goes.goes_while_turn limit program b on test (goes.goes_list limit program b on None list))
+        (same_while_turn test (same_list None list)) (same_looped list run.at run.again (typed.while test list)))
     same_statement run.again (typed.repeat list test) =
-        same_bind (goes.goes_list limit program b on None list) (same_list None list) (same_behind_repeat list test)
+        same_bind (goes.goes_repeat_turn limit program b on test (goes.goes_list limit program b on None list))
+        (same_repeat_turn test (goes.goes_list limit program b on None list) (same_list None list))
+        (same_looped list run.at run.again (typed.repeat list test))
     same_statement (run.at label) (typed.repeat list test) =
-        same_bind (goes.goes_list limit program b on (Some label) list) (same_list (Some label) list)
-        (same_behind_repeat list test)
+        same_bind (goes.goes_repeat_turn limit program b on test (goes.goes_list limit program b on (Some label) list))
+        (same_repeat_turn test (goes.goes_list limit program b on (Some label) list) (same_list (Some label) list))
+        (same_looped list run.at run.again (typed.repeat list test))
     same_statement run.start (typed.repeat list test) = same_first
-        (same_bind (goes.goes_list limit program b on None list) (same_list None list) (same_behind_repeat list test))
+        (same_bind (goes.goes_repeat_turn limit program b on test (goes.goes_list limit program b on None list))
+        (same_repeat_turn test (goes.goes_list limit program b on None list) (same_list None list))
+        (same_looped list run.at run.again (typed.repeat list test)))
     same_statement (run.turn last) (typed.repeat list test) = same_first
-        (same_bind (goes.goes_list limit program b on None list) (same_list None list) (same_behind_repeat list test))
+        (same_bind (goes.goes_repeat_turn limit program b on test (goes.goes_list limit program b on None list))
+        (same_repeat_turn test (goes.goes_list limit program b on None list) (same_list None list))
+        (same_looped list run.at run.again (typed.repeat list test)))
     same_statement (run.turn_at last label) (typed.repeat list test) = same_first
-        (same_bind (goes.goes_list limit program b on None list) (same_list None list) (same_behind_repeat list test))
+        (same_bind (goes.goes_repeat_turn limit program b on test (goes.goes_list limit program b on None list))
+        (same_repeat_turn test (goes.goes_list limit program b on None list) (same_list None list))
+        (same_looped list run.at run.again (typed.repeat list test)))
     same_statement (run.turn high) (typed.for slot way first last list) =
-        same_bind (goes.goes_list limit program b on None list) (same_list None list)
-        (same_behind_turn slot way high list (typed.for slot way first last list))
+        same_bind (goes.goes_for_turn limit program b on slot way high (goes.goes_list limit program b on None list))
+        (same_for_turn slot way high (goes.goes_list limit program b on None list) (same_list None list))
+        (same_looped list (run.turn_at high) (run.turn high) (typed.for slot way first last list))
     same_statement (run.turn_at high label) (typed.for slot way first last list) =
-        same_bind (goes.goes_list limit program b on (Some label) list) (same_list (Some label) list)
-        (same_behind_turn slot way high list (typed.for slot way first last list))
+        same_bind (goes.goes_for_turn limit program b on slot way high
+        (goes.goes_list limit program b on (Some label) list))
+        (same_for_turn slot way high (goes.goes_list limit program b on (Some label) list)
+        (same_list (Some label) list))
+        (same_looped list (run.turn_at high) (run.turn high) (typed.for slot way first last list))
     same_statement run.start (typed.for slot way first last list) =
         same_for_start slot way first last list (same_list None list)
     same_statement run.again (typed.for slot way first last list) =
@@ -386,7 +409,7 @@ module _ (limit : Option ℕ) (program : TypedProgram) (b b' : Doings)
     same_statement (run.at label) (typed.for slot way first last list) =
         same_for_start slot way first last list (same_list None list)
     same_statement from (typed.goto label) = same_self n _
-    same_statement from typed.goto_last = same_self n _
+    same_statement from (typed.goto_last status) = same_self n _
     same_statement from (typed.file_step step place) =
         same_file place (λ file. same_then (goes.goes_file_step limit program b on step file) (same_file_step step file)
         (same_self n (pure run.next)))
@@ -414,22 +437,21 @@ module _ (limit : Option ℕ) (program : TypedProgram) (b b' : Doings)
 
     pub same_list : (from : Option ℕ) (list : Statements)
         → Same n (run.items limit program b from list) (run.items limit program b' from list)
-    same_list None (typed.one label s) = same_statement run.start s
-    same_list (Some wanted) (typed.one label s) = same_statement run.start s
-    same_list None (typed.more list label s) =
-        same_bind (goes.goes_list limit program b on None list) (same_list None list)
-        (λ flow. same_on flow (same_statement run.start s))
-    same_list (Some wanted) (typed.more list label s) =
-        same_if (run.has_label list wanted)
-        (same_bind (goes.goes_list limit program b on (Some wanted) list) (same_list (Some wanted) list)
-        (λ flow. same_on flow (same_statement run.start s)))
-        (same_statement run.start s)
+    same_list None typed.no_statements = same_self n _
+    same_list (Some wanted) typed.no_statements = same_self n _
+    same_list None (typed.item label s list) =
+        same_bind (goes.goes_statement limit program b on run.start s) (same_statement run.start s)
+        (λ flow. same_on flow (same_list None list))
+    same_list (Some wanted) (typed.item label s list) =
+        same_if (run.has label wanted)
+        (same_bind (goes.goes_statement limit program b on run.start s) (same_statement run.start s)
+        (λ flow. same_on flow (same_list None list)))
+        (same_list (Some wanted) list)
 
     pub same_arm : (found : ℤ) (arms : Arms) {otherwise otherwise' : Doing Store Flow} → Same n otherwise otherwise'
         → Same n (run.arm limit program b found arms otherwise) (run.arm limit program b' found arms otherwise')
-    same_arm found (typed.one_arm values s) otherwise =
-        same_if (list_any (is_same found) values) (same_statement run.start s) otherwise
-    same_arm found (typed.more_arms arms values s) otherwise =
+    same_arm found typed.no_arms otherwise = otherwise
+    same_arm found (typed.arm values s arms) otherwise =
         same_if (list_any (is_same found) values) (same_statement run.start s) (same_arm found arms otherwise)
 
 -- two bounds that are not below the steps left agree

@@ -18,7 +18,7 @@ use Rattle.pas_meaning.specs.Outcome.{begin_call}
 use Rattle.pas_meaning.specs.FileSteps.{ask_file, change_file, append}
 use Rattle.pas_meaning.specs.Store as store
 use Rattle.pas_meaning.specs.Store.{Datum, Store, holds}
-use Rattle.pas_meaning.specs.Arithmetic.{is_true, is_same, within_maxint}
+use Rattle.pas_meaning.specs.Arithmetic.{is_true, is_same}
 use Rattle.pas_meaning.specs.Run as run
 use Rattle.pas_meaning.specs.Run.{Flow, Entry, Doings, Argument, number_of}
 use Rattle.pas_meaning.specs.Laws.{DeepOr, deep, same, AsRun}
@@ -58,6 +58,7 @@ as_if false one other = other
 as_on : (flow : Flow) {rest rest' : Doing Store Flow} → AsRun rest rest'
     → AsRun (run.go_on flow rest) (run.go_on flow rest')
 as_on run.next rest = rest
+as_on run.leaves rest = as_self _
 as_on (run.jump label) rest = as_self _
 
 -- the limit on active calls is met, or not
@@ -70,11 +71,14 @@ begins false found before world = same
 as_begin : {S : Type 0} (count : ℕ) → AsRun {S = S} (begin_call (Some count)) (begin_call None)
 as_begin count = record { each = λ now. begins (is_full (Some count) now.world.calls) now.store now.world _ }
 
+as_numbered : {doing doing' : Doing Store Datum} → AsRun doing doing' → AsRun (run.numbered doing) (run.numbered doing')
+as_numbered doing = as_bind doing (λ datum. as_self _)
+
 -- what is done with the number that an operand is
 as_operand : {A : Type 0} {operand operand' : Doing Store Datum} {next next' : ℤ → Doing Store A}
     → AsRun operand operand' → ((found : ℤ) → AsRun (next found) (next' found))
-    → AsRun (operand >>= (λ datum. number_of datum >>= next)) (operand' >>= (λ datum. number_of datum >>= next'))
-as_operand operand later = as_bind operand (λ datum. as_behind (number_of datum) later)
+    → AsRun (run.numbered operand >>= next) (run.numbered operand' >>= next')
+as_operand operand later = as_bind (as_numbered operand) later
 
 module _ (count : ℕ) (program : TypedProgram) (b b' : Doings)
     (as_below : (from : Entry) (s : Statement) → AsRun (b from s) (b' from s)) where
@@ -82,7 +86,7 @@ module _ (count : ℕ) (program : TypedProgram) (b b' : Doings)
       → AsRun (run.body_run (Some count) program b body arguments) (run.body_run None program b' body arguments)
   as_body None arguments = as_self _
   as_body (Some body) arguments =
-      as_then (as_self (change (λ before. store.opened (run.cells_for program.types body arguments before) before)))
+      as_then (as_self (change (λ before. store.opened (run.cells_for program body arguments before) before)))
       (as_bind (as_below run.start (typed.compound body.statements)) (λ flow. as_self _))
 
   as_call : (routine : ℕ) (arguments : List Argument)
@@ -115,8 +119,8 @@ module _ (count : ℕ) (program : TypedProgram) (b b' : Doings)
     as_value (typed.negated operand) =
         as_operand (as_value operand) (λ found. as_self _)
     as_value (typed.product left multiplying.And right) =
-        as_bind (as_value left) (λ datum.
-        as_behind (number_of datum) (λ first. as_if (is_true first) (as_value right) (as_self _)))
+        as_operand (as_value left)
+        (λ first. as_if (is_true first) (as_value right) (as_self _))
     as_value (typed.product left multiplying.Times right) =
         as_operand (as_value left) (λ first.
         as_operand (as_value right) (λ second. as_self _))
@@ -127,8 +131,8 @@ module _ (count : ℕ) (program : TypedProgram) (b b' : Doings)
         as_operand (as_value left) (λ first.
         as_operand (as_value right) (λ second. as_self _))
     as_value (typed.addition left adding.Or right) =
-        as_bind (as_value left) (λ datum.
-        as_behind (number_of datum) (λ first. as_if (is_true first) (as_self _) (as_value right)))
+        as_operand (as_value left)
+        (λ first. as_if (is_true first) (as_self _) (as_value right))
     as_value (typed.addition left adding.Plus right) =
         as_operand (as_value left) (λ first.
         as_operand (as_value right) (λ second. as_self _))
@@ -153,17 +157,18 @@ module _ (count : ℕ) (program : TypedProgram) (b b' : Doings)
     pub as_arguments : (passed : Passed)
         → AsRun (run.arguments_of (Some count) program b passed) (run.arguments_of None program b' passed)
     as_arguments typed.nothing = as_self _
-    as_arguments (typed.value before type argument) =
-        as_bind (as_arguments before) (λ arguments.
-        as_bind (as_value argument) (λ datum. as_self _))
-    as_arguments (typed.reference before place) =
-        as_bind (as_arguments before) (λ arguments.
-        as_bind (as_place place) (λ spot. as_self _))
+    as_arguments (typed.value type argument others) =
+        as_bind (as_value argument) (λ datum.
+        as_behind (answered (store.fits program.types type datum)) (λ checked.
+        as_bind (as_arguments others) (λ arguments. as_self _)))
+    as_arguments (typed.reference place others) =
+        as_bind (as_place place) (λ spot.
+        as_bind (as_arguments others) (λ arguments. as_self _))
 
   as_number_value : (found : Value)
       → AsRun (run.number_value (Some count) program b found) (run.number_value None program b' found)
   as_number_value found =
-      as_bind (as_value found) (λ datum. as_self _)
+      as_numbered (as_value found)
 
   -- what is done with the file that a place means
   as_file : {A : Type 0} (place : Place) {next next' : ℕ → Doing Store A}
@@ -231,55 +236,51 @@ module _ (count : ℕ) (program : TypedProgram) (b b' : Doings)
   as_file_step typed.get file = as_self _
   as_file_step typed.put file = as_self _
 
-  as_landed : (list : Statements) (entry : ℕ → Entry) (around : Statement) {rest rest' : Doing Store Flow}
-      (flow : Flow) → AsRun rest rest'
-      → AsRun (run.landed (Some count) program b list entry around rest flow)
-      (run.landed None program b' list entry around rest' flow)
-  as_landed list entry around run.next rest = rest
-  as_landed list entry around (run.jump label) rest =
-      as_if (run.has_label list label) (as_then (as_self take_step) (as_below (entry label) around))
-      (as_self _)
-
   as_again : (entry : Entry) (s : Statement) → AsRun (take_step >> b entry s) (take_step >> b' entry s)
   as_again entry s = as_then (as_self take_step) (as_below entry s)
 
-  as_until : (list : Statements) (test : Value)
-      → AsRun (run.until (Some count) program b list test) (run.until None program b' list test)
-  as_until list test =
+  as_entered : (list : Statements) (entry : ℕ → Entry) (around : Statement) (label : ℕ)
+      → AsRun (run.entered (Some count) program b list entry around label)
+      (run.entered None program b' list entry around label)
+  as_entered list entry around label =
+      as_if (run.has_label list label) (as_again (entry label) around) (as_self _)
+
+  as_behind_list : (list : Statements) (around : Statement) (flow : Flow)
+      → AsRun (run.behind_list (Some count) program b list around flow)
+      (run.behind_list None program b' list around flow)
+  as_behind_list list around run.next = as_self _
+  as_behind_list list around run.leaves = as_self _
+  as_behind_list list around (run.jump label) = as_entered list run.at around label
+
+  as_looped : (list : Statements) (entry : ℕ → Entry) (turning : Entry) (loop : Statement) (flow : Flow)
+      → AsRun (run.looped (Some count) program b list entry turning loop flow)
+      (run.looped None program b' list entry turning loop flow)
+  as_looped list entry turning loop run.next = as_again turning loop
+  as_looped list entry turning loop run.leaves = as_self _
+  as_looped list entry turning loop (run.jump label) = as_entered list entry loop label
+
+  as_while_turn : (test : Value) {list list' : Doing Store Flow} → AsRun list list'
+      → AsRun (run.while_turn (Some count) program b test list) (run.while_turn None program b' test list')
+  as_while_turn test list =
       as_bind (as_number_value test)
-      (λ found. as_if (is_true found) (as_self _) (as_again run.again (typed.repeat list test)))
+      (λ found. as_if (is_true found) list (as_self _))
 
-  as_behind_repeat : (list : Statements) (test : Value) (flow : Flow)
-      → AsRun (run.behind_repeat (Some count) program b list test flow)
-      (run.behind_repeat None program b' list test flow)
-  as_behind_repeat list test flow = as_landed list run.at (typed.repeat list test) flow (as_until list test)
+  as_until : (test : Value) → AsRun (run.until (Some count) program b test) (run.until None program b' test)
+  as_until test =
+      as_bind (as_number_value test) (λ found. as_self _)
 
-  as_behind_while : (test : Value) (list : Statements) (flow : Flow)
-      → AsRun (run.behind_while (Some count) program b test list flow) (run.behind_while None program b' test list flow)
-  as_behind_while test list flow =
-      as_landed list run.at (typed.while test list) flow (as_again run.again (typed.while test list))
+  as_repeat_turn : (test : Value) {list list' : Doing Store Flow} → AsRun list list'
+      → AsRun (run.repeat_turn (Some count) program b test list) (run.repeat_turn None program b' test list')
+  as_repeat_turn test list = as_bind list (λ flow. as_on flow (as_until test))
 
-  as_while_turn : (test : Value) (list : Statements) {body body' : Doing Store Flow} → AsRun body body'
-      → AsRun (run.while_turn (Some count) program b test list body) (run.while_turn None program b' test list body')
-  as_while_turn test list body =
-      as_bind (as_number_value test) (λ found.
-      as_if (is_true found) (as_bind body (as_behind_while test list)) (as_self _))
+  as_counted : (slot : Slot) (way : Way) (last : ℤ)
+      → AsRun (run.counted (Some count) program b slot way last) (run.counted None program b' slot way last)
+  as_counted slot way last = as_self _
 
-  as_next_turn : (slot : Slot) (way : Way) (last : ℤ) (loop : Statement)
-      → AsRun (run.next_turn (Some count) program b slot way last loop)
-      (run.next_turn None program b' slot way last loop)
-  as_next_turn slot way last loop =
-      as_behind (ask (λ found. store.number_at (store.home_of slot found) found)) (λ found.
-      as_if (is_same found last) (as_self _)
-      (as_behind (answered (within_maxint (run.next_value way found))) (λ following.
-      as_then (as_self (run.store_at program.types slot.type (run.part slot []) (holds following)))
-      (as_again (run.turn last) loop))))
-
-  as_behind_turn : (slot : Slot) (way : Way) (last : ℤ) (list : Statements) (loop : Statement) (flow : Flow)
-      → AsRun (run.behind_turn (Some count) program b slot way last list loop flow)
-      (run.behind_turn None program b' slot way last list loop flow)
-  as_behind_turn slot way last list loop flow =
-      as_landed list (run.turn_at last) loop flow (as_next_turn slot way last loop)
+  as_for_turn : (slot : Slot) (way : Way) (last : ℤ) {list list' : Doing Store Flow} → AsRun list list'
+      → AsRun (run.for_turn (Some count) program b slot way last list)
+      (run.for_turn None program b' slot way last list')
+  as_for_turn slot way last list = as_bind list (λ flow. as_on flow (as_counted slot way last))
 
   as_for : (slot : Slot) (way : Way) (first last : ℤ) (turns turns' : Doing Store Flow) → AsRun turns turns'
       → AsRun (run.for_from (Some count) program b slot way first last turns)
@@ -288,7 +289,7 @@ module _ (count : ℕ) (program : TypedProgram) (b b' : Doings)
       as_if (run.is_past way first last) (as_self _)
       (as_behind (answered (store.fits program.types slot.type (holds first))) (λ low.
       as_behind (answered (store.fits program.types slot.type (holds last))) (λ high.
-      as_then (as_self (run.store_at program.types slot.type (run.part slot []) low))
+      as_then (as_self (change (λ found. store.stored (store.home_of slot found) low found)))
       (as_bind both (λ flow. as_self _)))))
 
   as_first : {A : Type 0} {next next' : Doing Store A} → AsRun next next'
@@ -303,8 +304,9 @@ module _ (count : ℕ) (program : TypedProgram) (b b' : Doings)
       as_bind (as_number_value first) (λ low.
       as_bind (as_number_value last) (λ high.
       as_for slot way low high _ _
-      (as_first (as_bind body
-      (as_behind_turn slot way high list (typed.for slot way first last list))))))
+      (as_first (as_bind
+      (as_for_turn slot way high body)
+      (as_looped list (run.turn_at high) (run.turn high) (typed.for slot way first last list))))))
 
   mutual
     pub as_statement : (from : Entry) (s : Statement)
@@ -313,14 +315,14 @@ module _ (count : ℕ) (program : TypedProgram) (b b' : Doings)
     as_statement from (typed.assigns place right) =
         as_bind (as_value right) (λ datum.
         as_bind (as_place place) (λ spot. as_self _))
-    as_statement from (typed.sets_result type right) =
+    as_statement from (typed.sets_result cell type right) =
         as_bind (as_value right) (λ datum. as_self _)
     as_statement from (typed.calls routine passed) =
         as_bind (as_arguments passed) (λ arguments.
         as_then (as_call routine arguments) (as_self _))
     as_statement from (typed.compound list) =
         as_bind (as_list (run.label_in from) list)
-        (λ flow. as_landed list run.at (typed.compound list) flow (as_self _))
+        (as_behind_list list (typed.compound list))
     as_statement from (typed.if_then test s) =
         as_bind (as_number_value test)
         (λ found. as_if (is_true found) (as_statement run.start s) (as_self _))
@@ -334,33 +336,42 @@ module _ (count : ℕ) (program : TypedProgram) (b b' : Doings)
         as_bind (as_number_value selector)
         (λ found. as_arm found arms (as_statement run.start s))
     as_statement run.again (typed.while test list) =
-        as_while_turn test list (as_list None list)
+        as_bind
+        (as_while_turn test (as_list None list)) (as_looped list run.at run.again (typed.while test list))
     as_statement (run.at label) (typed.while test list) =
-        as_bind (as_list (Some label) list)
-        (as_behind_while test list)
-    as_statement run.start (typed.while test list) =
-        as_first (as_while_turn test list (as_list None list))
-    as_statement (run.turn last) (typed.while test list) =
-        as_first (as_while_turn test list (as_list None list))
-    as_statement (run.turn_at last label) (typed.while test list) =
-        as_first (as_while_turn test list (as_list None list))
+        as_bind (as_list (Some label) list) (as_looped list run.at run.again (typed.while test list))
+    as_statement run.start (typed.while test list) = as_first
+        (as_bind
+        (as_while_turn test (as_list None list)) (as_looped list run.at run.again (typed.while test list)))
+    as_statement (run.turn last) (typed.while test list) = as_first
+        (as_bind
+        (as_while_turn test (as_list None list)) (as_looped list run.at run.again (typed.while test list)))
+    as_statement (run.turn_at last label) (typed.while test list) = as_first
+        (as_bind
+        (as_while_turn test (as_list None list)) (as_looped list run.at run.again (typed.while test list)))
     as_statement run.again (typed.repeat list test) =
-        as_bind (as_list None list) (as_behind_repeat list test)
+        as_bind
+        (as_repeat_turn test (as_list None list)) (as_looped list run.at run.again (typed.repeat list test))
     as_statement (run.at label) (typed.repeat list test) =
-        as_bind (as_list (Some label) list)
-        (as_behind_repeat list test)
+        as_bind
+        (as_repeat_turn test (as_list (Some label) list)) (as_looped list run.at run.again (typed.repeat list test))
     as_statement run.start (typed.repeat list test) = as_first
-        (as_bind (as_list None list) (as_behind_repeat list test))
+        (as_bind
+        (as_repeat_turn test (as_list None list)) (as_looped list run.at run.again (typed.repeat list test)))
     as_statement (run.turn last) (typed.repeat list test) = as_first
-        (as_bind (as_list None list) (as_behind_repeat list test))
+        (as_bind
+        (as_repeat_turn test (as_list None list)) (as_looped list run.at run.again (typed.repeat list test)))
     as_statement (run.turn_at last label) (typed.repeat list test) = as_first
-        (as_bind (as_list None list) (as_behind_repeat list test))
+        (as_bind
+        (as_repeat_turn test (as_list None list)) (as_looped list run.at run.again (typed.repeat list test)))
     as_statement (run.turn high) (typed.for slot way first last list) =
-        as_bind (as_list None list)
-        (as_behind_turn slot way high list (typed.for slot way first last list))
+        as_bind
+        (as_for_turn slot way high (as_list None list))
+        (as_looped list (run.turn_at high) (run.turn high) (typed.for slot way first last list))
     as_statement (run.turn_at high label) (typed.for slot way first last list) =
-        as_bind (as_list (Some label) list)
-        (as_behind_turn slot way high list (typed.for slot way first last list))
+        as_bind
+        (as_for_turn slot way high (as_list (Some label) list))
+        (as_looped list (run.turn_at high) (run.turn high) (typed.for slot way first last list))
     as_statement run.start (typed.for slot way first last list) =
         as_for_start slot way first last list (as_list None list)
     as_statement run.again (typed.for slot way first last list) =
@@ -368,7 +379,7 @@ module _ (count : ℕ) (program : TypedProgram) (b b' : Doings)
     as_statement (run.at label) (typed.for slot way first last list) =
         as_for_start slot way first last list (as_list None list)
     as_statement from (typed.goto label) = as_self _
-    as_statement from typed.goto_last = as_self _
+    as_statement from (typed.goto_last status) = as_self _
     as_statement from (typed.file_step step place) =
         as_file place (λ file. as_then (as_file_step step file)
         (as_self (pure run.next)))
@@ -393,22 +404,21 @@ module _ (count : ℕ) (program : TypedProgram) (b b' : Doings)
 
     pub as_list : (from : Option ℕ) (list : Statements)
         → AsRun (run.items (Some count) program b from list) (run.items None program b' from list)
-    as_list None (typed.one label s) = as_statement run.start s
-    as_list (Some wanted) (typed.one label s) = as_statement run.start s
-    as_list None (typed.more list label s) =
-        as_bind (as_list None list)
-        (λ flow. as_on flow (as_statement run.start s))
-    as_list (Some wanted) (typed.more list label s) =
-        as_if (run.has_label list wanted)
-        (as_bind (as_list (Some wanted) list)
-        (λ flow. as_on flow (as_statement run.start s)))
-        (as_statement run.start s)
+    as_list None typed.no_statements = as_self _
+    as_list (Some wanted) typed.no_statements = as_self _
+    as_list None (typed.item label s list) =
+        as_bind (as_statement run.start s)
+        (λ flow. as_on flow (as_list None list))
+    as_list (Some wanted) (typed.item label s list) =
+        as_if (run.has label wanted)
+        (as_bind (as_statement run.start s)
+        (λ flow. as_on flow (as_list None list)))
+        (as_list (Some wanted) list)
 
     pub as_arm : (found : ℤ) (arms : Arms) {otherwise otherwise' : Doing Store Flow} → AsRun otherwise otherwise'
         → AsRun (run.arm (Some count) program b found arms otherwise) (run.arm None program b' found arms otherwise')
-    as_arm found (typed.one_arm values s) otherwise =
-        as_if (list_any (is_same found) values) (as_statement run.start s) otherwise
-    as_arm found (typed.more_arms arms values s) otherwise =
+    as_arm found typed.no_arms otherwise = otherwise
+    as_arm found (typed.arm values s arms) otherwise =
         as_if (list_any (is_same found) values) (as_statement run.start s) (as_arm found arms otherwise)
 
 -- within each bound

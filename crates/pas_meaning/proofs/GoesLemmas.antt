@@ -1,5 +1,5 @@
 -- Every statement goes on: the laws of a run, over the whole language.
-use Rattle.std.proofs.Common.{ℕ, zero, suc, List, [], ◌∷◌, ◌++◌, Option, Some, None}
+use Rattle.std.proofs.Common.{ℕ, zero, suc, List, [], ◌∷◌, Option, Some, None}
 use Rattle.std.specs.Prelude.{ℤ, nat_abs, length, not}
 use Rattle.std.specs.List.{list_any}
 use Rattle.pas_syntax.specs.declared.operators.Multiplying.TheVariants as multiplying
@@ -14,8 +14,7 @@ use Rattle.pas_types.specs.Expressions.{type_of_place}
 use Rattle.pas_meaning.specs.declared.errors.TheConstants.{INDEX_OUT_OF_RANGE, NO_CASE_MATCHES}
 use Rattle.pas_meaning.specs.Answers.{wrong}
 use Rattle.pas_meaning.specs.Files as files
-use Rattle.pas_meaning.specs.Outcome.{World, halted, Doing, pure, ◌>>=◌, ◌>>◌, ask, change, take_step}
-use Rattle.pas_meaning.specs.Outcome.{Worldly, stops}
+use Rattle.pas_meaning.specs.Outcome.{halted, Doing, pure, ◌>>=◌, ◌>>◌, ask, change}
 use Rattle.pas_meaning.specs.Store as store
 use Rattle.pas_meaning.specs.Store.{Datum, Store, holds}
 use Rattle.pas_meaning.specs.Arithmetic.{is_true, is_same, function_at, signed, multiplied, added, compared}
@@ -25,22 +24,26 @@ use Rattle.pas_meaning.specs.Run.{Flow, Entry, Doings, Spot, Argument, number_of
 use Rattle.pas_meaning.specs.Laws.{Goes}
 use Rattle.pas_meaning.proofs.OnwardLemmas.{goes_bind, goes_then, goes_pure, goes_answered, goes_ask, goes_change}
 use Rattle.pas_meaning.proofs.OnwardLemmas.{goes_stop}
-use Rattle.pas_meaning.proofs.OnwardLemmas.{goes_if, goes_worldly, goes_step, goes_begin, goes_end_call, goes_ask_file}
+use Rattle.pas_meaning.proofs.OnwardLemmas.{goes_if, goes_step, goes_begin, goes_end_call, goes_ask_file}
 use Rattle.pas_meaning.proofs.OnwardLemmas.{goes_change_file, goes_reset, get_keeps, readln_keeps, buffer_set_keeps}
 use Rattle.pas_meaning.proofs.OnwardLemmas.{goes_rewrite, goes_append, goes_put, onward_same}
 use Rattle.pas_meaning.specs.FileSteps.{change_file}
 
 pub goes_on : (flow : Flow) {rest : Doing Store Flow} → Goes rest → Goes (run.go_on flow rest)
 goes_on run.next rest = rest
+goes_on run.leaves rest = goes_pure _
 goes_on (run.jump label) rest = goes_pure _
 
 pub goes_number : (datum : Datum) → Goes (number_of datum)
 goes_number datum = goes_answered _
 
+pub goes_numbered : {doing : Doing Store Datum} → Goes doing → Goes (run.numbered doing)
+goes_numbered goes = goes_bind goes goes_number
+
 -- what is done with the number that an operand is
 pub goes_operand : {A : Type 0} {operand : Doing Store Datum} {next : ℤ → Doing Store A} → Goes operand
-    → ((found : ℤ) → Goes (next found)) → Goes (operand >>= (λ datum. number_of datum >>= next))
-goes_operand goes next = goes_bind goes (λ datum. goes_bind (goes_number datum) next)
+    → ((found : ℤ) → Goes (next found)) → Goes (run.numbered operand >>= next)
+goes_operand goes next = goes_bind (goes_numbered goes) next
 
 module _ (table : Table) where
   pub goes_read : (type : PasType) (spot : Spot) → Goes (run.read_at table type spot)
@@ -54,11 +57,6 @@ module _ (table : Table) where
   goes_store type (run.part slot path) datum = search (goes_bind, goes_answered, goes_change)
   goes_store type (run.window slot of_component) datum =
       search (goes_bind, goes_answered, goes_number, goes_ask, goes_set)
-
-pub goes_last : Goes {S = Store} {A = Flow} run.halt_at_last
-goes_last =
-    let last : World → Worldly Flow = λ world. stops (halted (run.status_at_last world.calls)) in
-    goes_worldly {step = last} (record { each = λ world. tt })
 
 module _ (limit : Option ℕ) (program : TypedProgram) (below : Doings)
     (goes_below : (from : Entry) (s : Statement) → Goes (below from s)) where
@@ -93,8 +91,7 @@ module _ (limit : Option ℕ) (program : TypedProgram) (below : Doings)
     goes_value (typed.negated operand) =
         goes_operand (goes_value operand) (λ found. goes_pure (run.boolean (not (is_true found))))
     goes_value (typed.product left multiplying.And right) =
-        goes_bind (goes_value left) (λ datum. goes_bind (goes_number datum)
-        (λ first. goes_if (is_true first) (goes_value right) (goes_pure datum)))
+        goes_operand (goes_value left) (λ first. goes_if (is_true first) (goes_value right) (goes_pure (holds first)))
     goes_value (typed.product left multiplying.Times right) =
         goes_operand (goes_value left) (λ first. goes_operand (goes_value right) (λ second.
         goes_bind (goes_answered (multiplied multiplying.Times first second)) (λ result. goes_pure (holds result))))
@@ -105,8 +102,7 @@ module _ (limit : Option ℕ) (program : TypedProgram) (below : Doings)
         goes_operand (goes_value left) (λ first. goes_operand (goes_value right) (λ second.
         goes_bind (goes_answered (multiplied multiplying.Mod first second)) (λ result. goes_pure (holds result))))
     goes_value (typed.addition left adding.Or right) =
-        goes_bind (goes_value left) (λ datum. goes_bind (goes_number datum)
-        (λ first. goes_if (is_true first) (goes_pure datum) (goes_value right)))
+        goes_operand (goes_value left) (λ first. goes_if (is_true first) (goes_pure (holds first)) (goes_value right))
     goes_value (typed.addition left adding.Plus right) =
         goes_operand (goes_value left) (λ first. goes_operand (goes_value right) (λ second.
         goes_bind (goes_answered (added adding.Plus first second)) (λ result. goes_pure (holds result))))
@@ -130,16 +126,15 @@ module _ (limit : Option ℕ) (program : TypedProgram) (below : Doings)
 
     pub goes_arguments : (passed : Passed) → Goes (run.arguments_of limit program below passed)
     goes_arguments typed.nothing = goes_pure _
-    goes_arguments (typed.value before type argument) =
-        goes_bind (goes_arguments before) (λ arguments. goes_bind (goes_value argument) (λ datum.
-        goes_bind (goes_answered (store.fits program.types type datum))
-        (λ checked. goes_pure (arguments ++ run.copied checked ∷ []))))
-    goes_arguments (typed.reference before place) =
-        goes_bind (goes_arguments before) (λ arguments. goes_bind (goes_place place)
-        (λ spot. goes_pure (arguments ++ run.meant spot ∷ [])))
+    goes_arguments (typed.value type argument others) =
+        goes_bind (goes_value argument) (λ datum. goes_bind (goes_answered (store.fits program.types type datum))
+        (λ checked. goes_bind (goes_arguments others) (λ arguments. goes_pure (run.copied checked ∷ arguments))))
+    goes_arguments (typed.reference place others) =
+        goes_bind (goes_place place) (λ spot. goes_bind (goes_arguments others)
+        (λ arguments. goes_pure (run.meant spot ∷ arguments)))
 
   pub goes_number_value : (found : Value) → Goes (run.number_value limit program below found)
-  goes_number_value found = goes_bind (goes_value found) goes_number
+  goes_number_value found = goes_numbered (goes_value found)
 
   -- what is done with the file that a place means
   pub goes_file : {A : Type 0} (place : Place) {next : ℕ → Doing Store A} → ((file : ℕ) → Goes (next file))
@@ -201,48 +196,51 @@ module _ (limit : Option ℕ) (program : TypedProgram) (below : Doings)
   goes_file_step typed.get file = goes_get file
   goes_file_step typed.put file = goes_put file
 
-  pub goes_landed : (list : Statements) (entry : ℕ → Entry) (around : Statement) {rest : Doing Store Flow} (flow : Flow)
-      → Goes rest → Goes (run.landed limit program below list entry around rest flow)
-  goes_landed list entry around run.next rest = rest
-  goes_landed list entry around (run.jump label) rest =
+  pub goes_entered : (list : Statements) (entry : ℕ → Entry) (around : Statement) (label : ℕ)
+      → Goes (run.entered limit program below list entry around label)
+  goes_entered list entry around label =
       goes_if (run.has_label list label) (goes_then goes_step (goes_below (entry label) around)) (goes_pure _)
 
-  pub goes_again : (entry : Entry) (s : Statement) → Goes (take_step >> below entry s)
-  goes_again entry s = goes_then goes_step (goes_below entry s)
+  pub goes_behind_list : (list : Statements) (around : Statement) (flow : Flow)
+      → Goes (run.behind_list limit program below list around flow)
+  goes_behind_list list around run.next = goes_pure run.next
+  goes_behind_list list around run.leaves = goes_pure run.leaves
+  goes_behind_list list around (run.jump label) = goes_entered list run.at around label
 
-  pub goes_until : (list : Statements) (test : Value) → Goes (run.until limit program below list test)
-  goes_until list test =
+  pub goes_looped : (list : Statements) (entry : ℕ → Entry) (turning : Entry) (loop : Statement) (flow : Flow)
+      → Goes (run.looped limit program below list entry turning loop flow)
+  goes_looped list entry turning loop run.next = goes_then goes_step (goes_below turning loop)
+  goes_looped list entry turning loop run.leaves = goes_pure run.next
+  goes_looped list entry turning loop (run.jump label) = goes_entered list entry loop label
+
+  pub goes_while_turn : (test : Value) {list : Doing Store Flow} → Goes list
+      → Goes (run.while_turn limit program below test list)
+  goes_while_turn test list =
+      goes_bind (goes_number_value test) (λ found. goes_if (is_true found) list (goes_pure run.leaves))
+
+  pub goes_until : (test : Value) → Goes (run.until limit program below test)
+  goes_until test =
       goes_bind (goes_number_value test)
-      (λ found. goes_if (is_true found) (goes_pure run.next) (goes_again run.again (typed.repeat list test)))
+      (λ found. goes_if (is_true found) (goes_pure run.leaves) (goes_pure run.next))
 
-  pub goes_behind_repeat : (list : Statements) (test : Value) (flow : Flow)
-      → Goes (run.behind_repeat limit program below list test flow)
-  goes_behind_repeat list test flow = goes_landed list run.at (typed.repeat list test) flow (goes_until list test)
+  pub goes_repeat_turn : (test : Value) {list : Doing Store Flow} → Goes list
+      → Goes (run.repeat_turn limit program below test list)
+  goes_repeat_turn test list = goes_bind list (λ flow. goes_on flow (goes_until test))
 
-  pub goes_behind_while : (test : Value) (list : Statements) (flow : Flow)
-      → Goes (run.behind_while limit program below test list flow)
-  goes_behind_while test list flow =
-      goes_landed list run.at (typed.while test list) flow (goes_again run.again (typed.while test list))
+  pub goes_next_stored : (slot : Slot) (way : Way) (found : ℤ)
+      → Goes (run.next_value_stored limit program below slot way found)
+  goes_next_stored slot way found =
+      goes_bind (goes_answered (within_maxint (run.next_value way found))) (λ following.
+      goes_then (goes_store program.types slot.type (run.part slot []) (holds following)) (goes_pure run.next))
 
-  pub goes_while_turn : (test : Value) (list : Statements) {body : Doing Store Flow} → Goes body
-      → Goes (run.while_turn limit program below test list body)
-  goes_while_turn test list body =
-      goes_bind (goes_number_value test)
-      (λ found. goes_if (is_true found) (goes_bind body (goes_behind_while test list)) (goes_pure run.next))
-
-  pub goes_next_turn : (slot : Slot) (way : Way) (last : ℤ) (loop : Statement)
-      → Goes (run.next_turn limit program below slot way last loop)
-  goes_next_turn slot way last loop =
+  pub goes_counted : (slot : Slot) (way : Way) (last : ℤ) → Goes (run.counted limit program below slot way last)
+  goes_counted slot way last =
       goes_bind (goes_ask (λ found. store.number_at (store.home_of slot found) found)) (λ found.
-      goes_if (is_same found last) (goes_pure run.next)
-      (goes_bind (goes_answered (within_maxint (run.next_value way found))) (λ following.
-      goes_then (goes_store program.types slot.type (run.part slot []) (holds following))
-      (goes_again (run.turn last) loop))))
+      goes_if (is_same found last) (goes_pure run.leaves) (goes_next_stored slot way found))
 
-  pub goes_behind_turn : (slot : Slot) (way : Way) (last : ℤ) (list : Statements) (loop : Statement) (flow : Flow)
-      → Goes (run.behind_turn limit program below slot way last list loop flow)
-  goes_behind_turn slot way last list loop flow =
-      goes_landed list (run.turn_at last) loop flow (goes_next_turn slot way last loop)
+  pub goes_for_turn : (slot : Slot) (way : Way) (last : ℤ) {list : Doing Store Flow} → Goes list
+      → Goes (run.for_turn limit program below slot way last list)
+  goes_for_turn slot way last list = goes_bind list (λ flow. goes_on flow (goes_counted slot way last))
 
   pub goes_forget : (slot : Slot) → Goes (change (run.forget slot) >> pure run.next)
   goes_forget slot = goes_then (goes_change (run.forget slot)) (goes_pure run.next)
@@ -253,21 +251,21 @@ module _ (limit : Option ℕ) (program : TypedProgram) (below : Doings)
       goes_if (run.is_past way first last) (goes_forget slot)
       (goes_bind (goes_answered (store.fits program.types slot.type (holds first))) (λ low.
       goes_bind (goes_answered (store.fits program.types slot.type (holds last))) (λ high.
-      goes_then (goes_store program.types slot.type (run.part slot []) low)
+      goes_then (goes_change (λ found. store.stored (store.home_of slot found) low found))
       (goes_bind goes (λ flow. goes_on flow (goes_forget slot))))))
 
   pub goes_reads : (type : PasType) (file : ℕ) (places : List Place)
       → Goes (run.read_items limit program below type file places >> pure run.next)
   goes_reads type file places = goes_then (goes_read_items type file places) (goes_pure run.next)
 
-  -- loops from their begin, by what their lists do
+  -- a `for` from its begin, by what its list does
   goes_for_start : (slot : Slot) (way : Way) (first last : Value) (list : Statements)
       → Goes (run.items limit program below None list)
       → Goes (run.statement limit program below run.start (typed.for slot way first last list))
   goes_for_start slot way first last list goes =
       goes_bind (goes_number_value first) (λ low. goes_bind (goes_number_value last) (λ high.
-      goes_for slot way low high _ (goes_then goes_step (goes_bind goes
-      (goes_behind_turn slot way high list (typed.for slot way first last list))))))
+      goes_for slot way low high _ (goes_then goes_step (goes_bind (goes_for_turn slot way high goes)
+      (goes_looped list (run.turn_at high) (run.turn high) (typed.for slot way first last list))))))
 
   mutual
     pub goes_statement : (from : Entry) (s : Statement) → Goes (run.statement limit program below from s)
@@ -275,14 +273,13 @@ module _ (limit : Option ℕ) (program : TypedProgram) (below : Doings)
     goes_statement from (typed.assigns place right) =
         goes_bind (goes_value right) (λ datum. goes_bind (goes_place place) (λ spot.
         goes_then (goes_store program.types (type_of_place place) spot datum) (goes_pure run.next)))
-    goes_statement from (typed.sets_result type right) =
+    goes_statement from (typed.sets_result cell type right) =
         goes_bind (goes_value right) (λ datum. goes_bind (goes_answered (store.fits program.types type datum))
-        (λ checked. goes_then (goes_change (run.with_result checked)) (goes_pure run.next)))
+        (λ checked. goes_then (goes_change (run.with_result cell checked)) (goes_pure run.next)))
     goes_statement from (typed.calls routine passed) =
         goes_bind (goes_arguments passed) (λ arguments. goes_then (goes_call routine arguments) (goes_pure run.next))
     goes_statement from (typed.compound list) =
-        goes_bind (goes_list (run.label_in from) list)
-        (λ flow. goes_landed list run.at (typed.compound list) flow (goes_pure run.next))
+        goes_bind (goes_list (run.label_in from) list) (goes_behind_list list (typed.compound list))
     goes_statement from (typed.if_then test s) =
         goes_bind (goes_number_value test) (λ found. goes_if (is_true found) (goes_statement run.start s) (goes_pure _))
     goes_statement from (typed.if_else test s t) =
@@ -293,29 +290,41 @@ module _ (limit : Option ℕ) (program : TypedProgram) (below : Doings)
         (λ found. goes_arm found arms (goes_answered (wrong NO_CASE_MATCHES)))
     goes_statement from (typed.case_others selector arms s) =
         goes_bind (goes_number_value selector) (λ found. goes_arm found arms (goes_statement run.start s))
-    goes_statement run.again (typed.while test list) = goes_while_turn test list (goes_list None list)
+    goes_statement run.again (typed.while test list) =
+        goes_bind (goes_while_turn test (goes_list None list))
+        (goes_looped list run.at run.again (typed.while test list))
     goes_statement (run.at label) (typed.while test list) =
-        goes_bind (goes_list (Some label) list) (goes_behind_while test list)
+        goes_bind (goes_list (Some label) list) (goes_looped list run.at run.again (typed.while test list))
     goes_statement run.start (typed.while test list) =
-        goes_then goes_step (goes_while_turn test list (goes_list None list))
+        goes_then goes_step (goes_bind (goes_while_turn test (goes_list None list))
+        (goes_looped list run.at run.again (typed.while test list)))
     goes_statement (run.turn last) (typed.while test list) =
-        goes_then goes_step (goes_while_turn test list (goes_list None list))
+        goes_then goes_step (goes_bind (goes_while_turn test (goes_list None list))
+        (goes_looped list run.at run.again (typed.while test list)))
     goes_statement (run.turn_at last label) (typed.while test list) =
-        goes_then goes_step (goes_while_turn test list (goes_list None list))
-    goes_statement run.again (typed.repeat list test) = goes_bind (goes_list None list) (goes_behind_repeat list test)
+        goes_then goes_step (goes_bind (goes_while_turn test (goes_list None list))
+        (goes_looped list run.at run.again (typed.while test list)))
+    goes_statement run.again (typed.repeat list test) =
+        goes_bind (goes_repeat_turn test (goes_list None list))
+        (goes_looped list run.at run.again (typed.repeat list test))
     goes_statement (run.at label) (typed.repeat list test) =
-        goes_bind (goes_list (Some label) list) (goes_behind_repeat list test)
+        goes_bind (goes_repeat_turn test (goes_list (Some label) list))
+        (goes_looped list run.at run.again (typed.repeat list test))
     goes_statement run.start (typed.repeat list test) =
-        goes_then goes_step (goes_bind (goes_list None list) (goes_behind_repeat list test))
+        goes_then goes_step (goes_bind (goes_repeat_turn test (goes_list None list))
+        (goes_looped list run.at run.again (typed.repeat list test)))
     goes_statement (run.turn last) (typed.repeat list test) =
-        goes_then goes_step (goes_bind (goes_list None list) (goes_behind_repeat list test))
+        goes_then goes_step (goes_bind (goes_repeat_turn test (goes_list None list))
+        (goes_looped list run.at run.again (typed.repeat list test)))
     goes_statement (run.turn_at last label) (typed.repeat list test) =
-        goes_then goes_step (goes_bind (goes_list None list) (goes_behind_repeat list test))
+        goes_then goes_step (goes_bind (goes_repeat_turn test (goes_list None list))
+        (goes_looped list run.at run.again (typed.repeat list test)))
     goes_statement (run.turn high) (typed.for slot way first last list) =
-        goes_bind (goes_list None list) (goes_behind_turn slot way high list (typed.for slot way first last list))
+        goes_bind (goes_for_turn slot way high (goes_list None list))
+        (goes_looped list (run.turn_at high) (run.turn high) (typed.for slot way first last list))
     goes_statement (run.turn_at high label) (typed.for slot way first last list) =
-        goes_bind (goes_list (Some label) list)
-        (goes_behind_turn slot way high list (typed.for slot way first last list))
+        goes_bind (goes_for_turn slot way high (goes_list (Some label) list))
+        (goes_looped list (run.turn_at high) (run.turn high) (typed.for slot way first last list))
     goes_statement run.start (typed.for slot way first last list) =
         goes_for_start slot way first last list (goes_list None list)
     goes_statement run.again (typed.for slot way first last list) =
@@ -323,7 +332,7 @@ module _ (limit : Option ℕ) (program : TypedProgram) (below : Doings)
     goes_statement (run.at label) (typed.for slot way first last list) =
         goes_for_start slot way first last list (goes_list None list)
     goes_statement from (typed.goto label) = goes_pure _
-    goes_statement from typed.goto_last = goes_last
+    goes_statement from (typed.goto_last status) = goes_stop (halted status)
     goes_statement from (typed.file_step step place) =
         goes_file place (λ file. goes_then (goes_file_step step file) (goes_pure run.next))
     goes_statement from (typed.reads place places) =
@@ -344,20 +353,19 @@ module _ (limit : Option ℕ) (program : TypedProgram) (below : Doings)
         (λ checked. goes_stop (halted checked)))
 
     pub goes_list : (from : Option ℕ) (list : Statements) → Goes (run.items limit program below from list)
-    goes_list None (typed.one label s) = goes_statement run.start s
-    goes_list (Some wanted) (typed.one label s) = goes_statement run.start s
-    goes_list None (typed.more list label s) =
-        goes_bind (goes_list None list) (λ flow. goes_on flow (goes_statement run.start s))
-    goes_list (Some wanted) (typed.more list label s) =
-        goes_if (run.has_label list wanted)
-        (goes_bind (goes_list (Some wanted) list) (λ flow. goes_on flow (goes_statement run.start s)))
-        (goes_statement run.start s)
+    goes_list None typed.no_statements = goes_pure run.next
+    goes_list (Some wanted) typed.no_statements = goes_pure run.next
+    goes_list None (typed.item label s list) =
+        goes_bind (goes_statement run.start s) (λ flow. goes_on flow (goes_list None list))
+    goes_list (Some wanted) (typed.item label s list) =
+        goes_if (run.has label wanted)
+        (goes_bind (goes_statement run.start s) (λ flow. goes_on flow (goes_list None list)))
+        (goes_list (Some wanted) list)
 
     pub goes_arm : (found : ℤ) (arms : Arms) {otherwise : Doing Store Flow} → Goes otherwise
         → Goes (run.arm limit program below found arms otherwise)
-    goes_arm found (typed.one_arm values s) otherwise =
-        goes_if (list_any (is_same found) values) (goes_statement run.start s) otherwise
-    goes_arm found (typed.more_arms arms values s) otherwise =
+    goes_arm found typed.no_arms otherwise = otherwise
+    goes_arm found (typed.arm values s arms) otherwise =
         goes_if (list_any (is_same found) values) (goes_statement run.start s) (goes_arm found arms otherwise)
 
 -- within each bound

@@ -1,5 +1,5 @@
-mod OnwardLemmas
-mod GoesLemmas
-mod BoundLemmas
-mod DepthLemmas
+pub mod OnwardLemmas
+pub mod GoesLemmas
+pub mod BoundLemmas
+pub mod DepthLemmas
 pub mod TrialLemmas

@@ -9,6 +9,7 @@ abbrev pub then_answer : {A B : Type 0} → Answer A → (A → Answer B) → An
 then_answer (fine value) next = next value
 then_answer (wrong kind) next = wrong kind
 
-abbrev pub found : {A : Type 0} → ℕ → Option A → Answer A
-found kind None = wrong kind
-found kind (Some value) = fine value
+-- what is there, or else an error
+abbrev pub or_wrong : {A : Type 0} → ℕ → Option A → Answer A
+or_wrong kind None = wrong kind
+or_wrong kind (Some value) = fine value

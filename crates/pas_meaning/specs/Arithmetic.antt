@@ -1,5 +1,6 @@
 -- Operators and required functions on numbers (ISO 7185, 6.7.2 and 6.6.6, in this project's profile).
-use Rattle.std.specs.Prelude.{ℤ, pos, neg_ℤ, ◌+ℤ◌, ◌-ℤ◌, ◌*ℤ◌, int_le, int_lt, int_div, nat_abs, ◌%◌, ◌==◌}
+use Rattle.std.specs.Prelude.{zero, suc, negsuc, ℤ, pos, neg_ℤ, ◌+ℤ◌, ◌-ℤ◌, ◌*ℤ◌, int_le, int_lt, int_div, nat_abs}
+use Rattle.std.specs.Prelude.{◌%◌, ◌==◌}
 use Rattle.std.specs.Prelude.{◌&&◌, not, Bool, true, false, if◌then◌else◌}
 use Rattle.std.specs.Int.{int_rem_euclid}
 use Rattle.pas_syntax.specs.declared.operators.Sign.{Sign}
@@ -22,7 +23,9 @@ truth true = pos 1
 truth false = pos 0
 
 abbrev pub is_true : ℤ → Bool
-is_true value = int_lt (pos 0) value
+is_true (pos zero) = false
+is_true (pos (suc value)) = true
+is_true (negsuc value) = true
 
 -- an integer, or an error past maxint
 abbrev pub within_maxint : ℤ → Answer ℤ

@@ -7,7 +7,7 @@ use Rattle.std.specs.List.{last_or}
 use Rattle.std.specs.Fmt.{signed_decimal}
 use Rattle.pas_meaning.specs.declared.errors.TheConstants.{WIDTH_BELOW_1, WRONG_MODE, AT_END_OF_FILE}
 use Rattle.pas_meaning.specs.declared.errors.TheConstants.{UNDEFINED_BUFFER}
-use Rattle.pas_meaning.specs.Answers.{Answer, fine, wrong, then_answer, found}
+use Rattle.pas_meaning.specs.Answers.{Answer, fine, wrong, then_answer, or_wrong}
 
 -- what a file is used for: nothing before its first reset or rewrite
 pub data Mode : Type 0 where
@@ -66,7 +66,7 @@ rewrite file = record file { bytes = []; place = 0; mode = writing; buffer = Non
 
 -- the byte at the place of a file that is read
 abbrev pub next_byte : File → Answer ℕ
-next_byte file = while_reading file (found AT_END_OF_FILE (byte_at_place file))
+next_byte file = while_reading file (or_wrong AT_END_OF_FILE (byte_at_place file))
 
 -- `f^` while the file is read: at the end of a line it is a space
 abbrev pub as_buffer : Bool → ℕ → ℕ
@@ -104,7 +104,7 @@ abbrev pub buffer_set : ℕ → File → Answer File
 buffer_set byte file = while_writing file (fine (record file { buffer = Some byte }))
 
 abbrev pub byte_to_put : File → Answer ℕ
-byte_to_put file = while_writing file (found UNDEFINED_BUFFER file.buffer)
+byte_to_put file = while_writing file (or_wrong UNDEFINED_BUFFER file.buffer)
 
 -- what is printed on a text in a field of this width: a number or a char has spaces in front, and so has a string,
 -- which is cut where it is longer

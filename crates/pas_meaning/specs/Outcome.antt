@@ -65,9 +65,6 @@ ask question run = answered (question run.store) run
 abbrev pub change : {S : Type 0} → (S → S) → Doing S (Unit {0})
 change next run = gives tt (record run { store = next run.store })
 
-abbrev pub changed : {S : Type 0} → (S → Answer S) → Doing S (Unit {0})
-changed next = ask next >>= (λ store. change (λ _. store))
-
 -- what needs and changes the world alone
 pub data Worldly (A : Type 0) : Type 0 where
   passes : A → World → Worldly A

@@ -1,9 +1,8 @@
 -- What a program does (ISO 7185, 6.7 to 6.9, in this project's profile). The order of evaluation and of checks, the
 -- steps, and the end at the last label are this project's own.
-use Rattle.std.specs.Prelude.{ℕ, zero, suc, ◌-◌, ◌==◌, ◌&&◌, ◌||◌, not, ℤ, pos, nat_abs, int_le, ◌+ℤ◌, ◌-ℤ◌, Bool}
-use Rattle.std.specs.Prelude.{false}
-use Rattle.std.specs.Prelude.{if◌then◌else◌, List, [], ◌∷◌, ◌++◌, length, map, drop, find, Option, Some, None}
-use Rattle.std.specs.Prelude.{unwrap_or, slice_index_or}
+use Rattle.std.specs.Prelude.{ℕ, zero, suc, ◌==◌, ◌&&◌, ◌||◌, not, ℤ, pos, nat_abs, int_le, ◌+ℤ◌, ◌-ℤ◌, Bool}
+use Rattle.std.specs.Prelude.{false, if◌then◌else◌, List, [], ◌∷◌, ◌++◌, length, map, drop, find, slice_get, Option}
+use Rattle.std.specs.Prelude.{Some, None, unwrap_or, option_to_list}
 use Rattle.std.specs.List.{list_any}
 use Rattle.pas_syntax.specs.declared.operators.Multiplying.TheVariants as multiplying
 use Rattle.pas_syntax.specs.declared.operators.Adding.TheVariants as adding
@@ -12,15 +11,15 @@ use Rattle.pas_syntax.specs.declared.operators.Way.TheVariants as way
 use Rattle.pas_types.specs.Types.{Range, PasType, Table, whole, char, component_of}
 use Rattle.pas_types.specs.Typed as typed
 use Rattle.pas_types.specs.Typed.{FileTest, FileStep, Variable, Slot, Value, Place, Passed, Item, Statement, Statements}
-use Rattle.pas_types.specs.Typed.{Arms, Body, TypedProgram}
+use Rattle.pas_types.specs.Typed.{Arms, Heading, Body, TypedProgram}
 use Rattle.pas_types.specs.Expressions.{type_of_place}
 use Rattle.pas_meaning.specs.declared.errors.TheConstants.{UNDEFINED_VALUE, INDEX_OUT_OF_RANGE}
 use Rattle.pas_meaning.specs.declared.errors.TheConstants.{NO_CASE_MATCHES, UNDEFINED_RESULT, STATUS_OUT_OF_RANGE}
-use Rattle.pas_meaning.specs.Answers.{Answer, fine, wrong, found}
+use Rattle.pas_meaning.specs.Answers.{Answer, fine, wrong, or_wrong}
 use Rattle.pas_meaning.specs.Files as files
 use Rattle.pas_meaning.specs.Files.{number_in_field, char_in_field, string_in_field, line_end}
 use Rattle.pas_meaning.specs.Outcome.{going, halted, Doing, ends, pure, ◌>>=◌, ◌>>◌, answered, ask, change}
-use Rattle.pas_meaning.specs.Outcome.{take_step, begin_call, end_call, stop, stops, worldly}
+use Rattle.pas_meaning.specs.Outcome.{take_step, begin_call, end_call, stop}
 use Rattle.pas_meaning.specs.FileSteps.{ask_file, change_file, reset, rewrite, append, put}
 use Rattle.pas_meaning.specs.Store.{Datum, undefined, holds, Cell, own, refers, Store, top_of, home_of}
 use Rattle.pas_meaning.specs.Store.{along, stored, cell_at, with_cell, held_by, number_in, number_at, in_range}
@@ -28,9 +27,10 @@ use Rattle.pas_meaning.specs.Store.{fits, fetched_as, file_number, blank_of, ope
 use Rattle.pas_meaning.specs.Arithmetic.{truth, is_true, within_maxint, signed, multiplied, added, is_same, compared}
 use Rattle.pas_meaning.specs.Arithmetic.{function_at}
 
--- how a statement goes on: behind itself, or at a label of a list around it
+-- how a statement goes on: behind itself, or at a label of a list around it; and a turn of a loop also behind the loop
 pub data Flow : Type 0 where
   next : Flow
+  leaves : Flow
   jump : ℕ → Flow
 
 -- where a statement is entered: at its begin; at a label of its list; a loop behind the step of its next turn; or a
@@ -48,6 +48,7 @@ Doings = Entry → Statement → Doing Store Flow
 -- what is done behind a statement, unless it jumps
 abbrev pub go_on : Flow → Doing Store Flow → Doing Store Flow
 go_on next rest = rest
+go_on leaves rest = pure leaves
 go_on (jump label) rest = pure (jump label)
 
 -- labels of a list
@@ -56,8 +57,8 @@ has None label = false
 has (Some own_label) label = own_label == label
 
 abbrev pub has_label : Statements → ℕ → Bool
-has_label (typed.one own_label s) label = has own_label label
-has_label (typed.more list own_label s) label = has_label list label || has own_label label
+has_label typed.no_statements label = false
+has_label (typed.item own_label s list) label = has own_label label || has_label list label
 
 -- a place with its checked indexes: a part of a variable, or the buffer of a file of components of a type
 pub data Spot : Type 0 where
@@ -84,7 +85,11 @@ pub data Argument : Type 0 where
   meant : Spot → Argument
 
 abbrev pub number_of : Datum → Doing Store ℤ
-number_of datum = answered (found UNDEFINED_VALUE (number_in datum))
+number_of datum = answered (or_wrong UNDEFINED_VALUE (number_in datum))
+
+-- the number that is evaluated
+abbrev pub numbered : Doing Store Datum → Doing Store ℤ
+numbered doing = doing >>= number_of
 
 abbrev pub boolean : Bool → Datum
 boolean value = holds (truth value)
@@ -114,7 +119,7 @@ module _ (table : Table) where
 
 -- calls
 
--- the cells of an activation: arguments, variables that are blank, and the result
+-- the cells of an activation: arguments, variables that are blank, and the result of a function
 abbrev pub cell_of : Store → Argument → Cell
 cell_of store (copied datum) = own datum
 cell_of store (meant spot) = refers (along (home_of (slot_of spot) store) (path_of spot))
@@ -122,20 +127,22 @@ cell_of store (meant spot) = refers (along (home_of (slot_of spot) store) (path_
 abbrev pub blank_cell : Table → Variable → Cell
 blank_cell table variable = own (blank_of table variable.type)
 
-abbrev pub cells_for : Table → Body → List Argument → Store → List Cell
-cells_for table body arguments store =
-    map (cell_of store) arguments ++ map (blank_cell table) (drop (length arguments) body.variables)
-    ++ own undefined ∷ []
+abbrev pub result_cells : Option Heading → List Cell
+result_cells None = []
+result_cells (Some heading) = map (λ type. own undefined) (option_to_list heading.result)
 
--- the result of the function that runs is the last cell of its activation
-abbrev pub result_number : Store → ℕ
-result_number store = length (slice_index_or store (top_of store) []) - 1
+abbrev pub cells_for : TypedProgram → Body → List Argument → Store → List Cell
+cells_for program body arguments store =
+    map (cell_of store) arguments
+    ++ map (blank_cell program.types) (drop (length arguments) body.variables)
+    ++ result_cells (slice_get program.headings body.routine)
 
-abbrev pub result_of : Store → Datum
-result_of store = held_by (cell_at (top_of store) (result_number store) store)
+-- the result of the function that runs, in the cell with this number
+abbrev pub result_of : ℕ → Store → Datum
+result_of cell store = held_by (cell_at (top_of store) cell store)
 
-abbrev pub with_result : Datum → Store → Store
-with_result datum store = with_cell (top_of store) (result_number store) (own datum) store
+abbrev pub with_result : ℕ → Datum → Store → Store
+with_result cell datum store = with_cell (top_of store) cell (own datum) store
 
 abbrev pub defined_result : Datum → Answer Datum
 defined_result (holds value) = fine (holds value)
@@ -144,14 +151,6 @@ defined_result datum = wrong UNDEFINED_RESULT
 -- the body of a routine
 abbrev pub body_of : TypedProgram → ℕ → Option Body
 body_of program routine = find (λ body. body.routine == routine) program.bodies
-
--- a halt at the last label of the program: with 1 while a call is active, else with 0
-abbrev pub status_at_last : ℕ → ℕ
-status_at_last zero = 0
-status_at_last (suc calls) = 1
-
-abbrev pub halt_at_last : {A : Type 0} → Doing Store A
-halt_at_last = worldly (λ world. stops (halted (status_at_last world.calls)))
 
 -- a status is from 0 to 255
 abbrev pub status_of : ℤ → Answer ℕ
@@ -191,9 +190,9 @@ module _ (limit : Option ℕ) (program : TypedProgram) (below : Doings) where
   abbrev pub body_run : Option Body → List Argument → Doing Store Datum
   body_run None arguments = pure undefined
   body_run (Some body) arguments = do
-    change (λ store. opened (cells_for program.types body arguments store) store)
+    change (λ store. opened (cells_for program body arguments store) store)
     flow ← below start (typed.compound body.statements)
-    result ← ask (λ store. fine (result_of store))
+    result ← ask (λ store. fine (result_of (length body.variables) store))
     change closed
     end_call
     pure result
@@ -220,8 +219,7 @@ module _ (limit : Option ℕ) (program : TypedProgram) (below : Doings) where
       result ← call routine arguments
       answered (defined_result result)
     value (typed.applied function argument) = do
-      datum ← value argument
-      found ← number_of datum
+      found ← numbered (value argument)
       result ← answered (function_at function found)
       pure (holds result)
     value (typed.tested test place) = do
@@ -230,40 +228,30 @@ module _ (limit : Option ℕ) (program : TypedProgram) (below : Doings) where
       test_file test file
     value (typed.parenthesized inner) = value inner
     value (typed.signed sign operand) = do
-      datum ← value operand
-      found ← number_of datum
+      found ← numbered (value operand)
       pure (holds (signed sign found))
     value (typed.negated operand) = do
-      datum ← value operand
-      found ← number_of datum
+      found ← numbered (value operand)
       pure (boolean (not (is_true found)))
     value (typed.product left multiplying.And right) = do
-      datum ← value left
-      first ← number_of datum
-      (if is_true first then value right else pure datum)
+      first ← numbered (value left)
+      (if is_true first then value right else pure (holds first))
     value (typed.product left op right) = do
-      datum ← value left
-      first ← number_of datum
-      other ← value right
-      second ← number_of other
+      first ← numbered (value left)
+      second ← numbered (value right)
       result ← answered (multiplied op first second)
       pure (holds result)
     value (typed.addition left adding.Or right) = do
-      datum ← value left
-      first ← number_of datum
-      (if is_true first then pure datum else value right)
+      first ← numbered (value left)
+      (if is_true first then pure (holds first) else value right)
     value (typed.addition left op right) = do
-      datum ← value left
-      first ← number_of datum
-      other ← value right
-      second ← number_of other
+      first ← numbered (value left)
+      second ← numbered (value right)
       result ← answered (added op first second)
       pure (holds result)
     value (typed.comparison left relation right) = do
-      datum ← value left
-      first ← number_of datum
-      other ← value right
-      second ← number_of other
+      first ← numbered (value left)
+      second ← numbered (value right)
       pure (boolean (compared relation first second))
 
     -- a place: each index is checked when it is evaluated
@@ -271,8 +259,7 @@ module _ (limit : Option ℕ) (program : TypedProgram) (below : Doings) where
     spot_at (typed.slot slot) = pure (part slot [])
     spot_at (typed.element place range type index) = do
       spot ← spot_at place
-      datum ← value index
-      found ← number_of datum
+      found ← numbered (value index)
       checked ← answered (in_range INDEX_OUT_OF_RANGE range found)
       pure (along_part spot (offset_in range checked))
     spot_at (typed.field place field type) = do
@@ -285,19 +272,19 @@ module _ (limit : Option ℕ) (program : TypedProgram) (below : Doings) where
     -- arguments, from left to right: the range of each value is checked when it is evaluated
     pub arguments_of : Passed → Doing Store (List Argument)
     arguments_of typed.nothing = pure []
-    arguments_of (typed.value before type argument) = do
-      arguments ← arguments_of before
+    arguments_of (typed.value type argument others) = do
       datum ← value argument
       checked ← answered (fits program.types type datum)
-      pure (arguments ++ copied checked ∷ [])
-    arguments_of (typed.reference before place) = do
-      arguments ← arguments_of before
+      arguments ← arguments_of others
+      pure (copied checked ∷ arguments)
+    arguments_of (typed.reference place others) = do
       spot ← spot_at place
-      pure (arguments ++ meant spot ∷ [])
+      arguments ← arguments_of others
+      pure (meant spot ∷ arguments)
 
   -- a value that is a number
   abbrev pub number_value : Value → Doing Store ℤ
-  number_value found = value found >>= number_of
+  number_value found = numbered (value found)
 
   -- read(f, v) is v := f^; get(f)
   abbrev pub read_item : PasType → ℕ → Place → Doing Store (Unit {0})
@@ -352,44 +339,53 @@ module _ (limit : Option ℕ) (program : TypedProgram) (below : Doings) where
   file_step typed.get file = change_file file files.get
   file_step typed.put file = put file
 
-  -- a jump to a label of a list enters it there; its step is taken where it lands
-  abbrev pub landed : Statements → (ℕ → Entry) → Statement → Doing Store Flow → Flow → Doing Store Flow
-  landed list entry around rest next = rest
-  landed list entry around rest (jump label) =
+  -- behind a list, a jump to one of its labels enters it there; its step is taken where it lands
+  abbrev pub entered : Statements → (ℕ → Entry) → Statement → ℕ → Doing Store Flow
+  entered list entry around label =
       if has_label list label then take_step >> below (entry label) around else pure (jump label)
 
-  -- a turn of a `while`, of which the list does this, and what comes behind its list
-  abbrev pub behind_while : Value → Statements → Flow → Doing Store Flow
-  behind_while test list flow =
-      landed list at (typed.while test list) (take_step >> below again (typed.while test list)) flow
+  abbrev pub behind_list : Statements → Statement → Flow → Doing Store Flow
+  behind_list list around (jump label) = entered list at around label
+  behind_list list around flow = pure flow
 
-  abbrev pub while_turn : Value → Statements → Doing Store Flow → Doing Store Flow
-  while_turn test list body = do
+  -- behind a turn of a loop: the step of the next turn, which is entered so, or what stands behind the loop
+  abbrev pub looped : Statements → (ℕ → Entry) → Entry → Statement → Flow → Doing Store Flow
+  looped list entry turning loop next = take_step >> below turning loop
+  looped list entry turning loop leaves = pure next
+  looped list entry turning loop (jump label) = entered list entry loop label
+
+  -- turns, of which the list does this: of a `while`, which tests before it; of a `repeat`, which tests behind it; and
+  -- of a `for`, which is at its end where the variable has the last value
+  abbrev pub while_turn : Value → Doing Store Flow → Doing Store Flow
+  while_turn test list = do
     found ← number_value test
-    (if is_true found then body >>= behind_while test list else pure next)
+    (if is_true found then list else pure leaves)
 
-  -- what comes behind the list of a `repeat`
-  abbrev pub until : Statements → Value → Doing Store Flow
-  until list test = do
+  abbrev pub until : Value → Doing Store Flow
+  until test = do
     found ← number_value test
-    (if is_true found then pure next else take_step >> below again (typed.repeat list test))
+    (if is_true found then pure leaves else pure next)
 
-  abbrev pub behind_repeat : Statements → Value → Flow → Doing Store Flow
-  behind_repeat list test flow = landed list at (typed.repeat list test) (until list test) flow
+  abbrev pub repeat_turn : Value → Doing Store Flow → Doing Store Flow
+  repeat_turn test list = do
+    flow ← list
+    go_on flow (until test)
 
-  -- a `for` behind a turn: it is at its end where the variable has the last value
-  abbrev pub next_turn : Slot → Way → ℤ → Statement → Doing Store Flow
-  next_turn slot way last loop = do
+  abbrev pub next_value_stored : Slot → Way → ℤ → Doing Store Flow
+  next_value_stored slot way found = do
+    following ← answered (within_maxint (next_value way found))
+    store_at program.types slot.type (part slot []) (holds following)
+    pure next
+
+  abbrev pub counted : Slot → Way → ℤ → Doing Store Flow
+  counted slot way last = do
     found ← ask (λ store. number_at (home_of slot store) store)
-    (if is_same found last then pure next else (do
-      following ← answered (within_maxint (next_value way found))
-      store_at program.types slot.type (part slot []) (holds following)
-      take_step
-      below (turn last) loop))
+    (if is_same found last then pure leaves else next_value_stored slot way found)
 
-  abbrev pub behind_turn : Slot → Way → ℤ → Statements → Statement → Flow → Doing Store Flow
-  behind_turn slot way last list loop flow =
-      landed list (turn_at last) loop (next_turn slot way last loop) flow
+  abbrev pub for_turn : Slot → Way → ℤ → Doing Store Flow → Doing Store Flow
+  for_turn slot way last list = do
+    flow ← list
+    go_on flow (counted slot way last)
 
   -- the limits of a `for` are both in the range of its variable; behind a normal end that is undefined
   abbrev pub for_from : Slot → Way → ℤ → ℤ → Doing Store Flow → Doing Store Flow
@@ -397,7 +393,7 @@ module _ (limit : Option ℕ) (program : TypedProgram) (below : Doings) where
       if is_past way first last then change (forget slot) >> pure next else (do
         low ← answered (fits program.types slot.type (holds first))
         high ← answered (fits program.types slot.type (holds last))
-        store_at program.types slot.type (part slot []) low
+        change (λ store. stored (home_of slot store) low store)
         flow ← turns
         go_on flow (change (forget slot) >> pure next))
 
@@ -409,18 +405,16 @@ module _ (limit : Option ℕ) (program : TypedProgram) (below : Doings) where
       spot ← spot_at place
       store_at program.types (type_of_place place) spot datum
       pure next
-    statement from (typed.sets_result type right) = do
+    statement from (typed.sets_result cell type right) = do
       datum ← value right
       checked ← answered (fits program.types type datum)
-      change (with_result checked)
+      change (with_result cell checked)
       pure next
     statement from (typed.calls routine passed) = do
       arguments ← arguments_of passed
       call routine arguments
       pure next
-    statement from (typed.compound list) = do
-      flow ← items (label_in from) list
-      landed list at (typed.compound list) (pure next) flow
+    statement from (typed.compound list) = items (label_in from) list >>= behind_list list (typed.compound list)
     statement from (typed.if_then test s) = do
       found ← number_value test
       (if is_true found then statement start s else pure next)
@@ -433,23 +427,31 @@ module _ (limit : Option ℕ) (program : TypedProgram) (below : Doings) where
     statement from (typed.case_others selector arms s) = do
       found ← number_value selector
       arm found arms (statement start s)
-    statement again (typed.while test list) = while_turn test list (items None list)
-    statement (at label) (typed.while test list) = items (Some label) list >>= behind_while test list
-    statement from (typed.while test list) = take_step >> while_turn test list (items None list)
-    statement again (typed.repeat list test) = items None list >>= behind_repeat list test
-    statement (at label) (typed.repeat list test) = items (Some label) list >>= behind_repeat list test
-    statement from (typed.repeat list test) = take_step >> (items None list >>= behind_repeat list test)
+    statement again (typed.while test list) =
+        while_turn test (items None list) >>= looped list at again (typed.while test list)
+    statement (at label) (typed.while test list) =
+        items (Some label) list >>= looped list at again (typed.while test list)
+    statement from (typed.while test list) =
+        take_step >> (while_turn test (items None list) >>= looped list at again (typed.while test list))
+    statement again (typed.repeat list test) =
+        repeat_turn test (items None list) >>= looped list at again (typed.repeat list test)
+    statement (at label) (typed.repeat list test) =
+        repeat_turn test (items (Some label) list) >>= looped list at again (typed.repeat list test)
+    statement from (typed.repeat list test) =
+        take_step >> (repeat_turn test (items None list) >>= looped list at again (typed.repeat list test))
     statement (turn last) (typed.for slot way first limit_value list) =
-        items None list >>= behind_turn slot way last list (typed.for slot way first limit_value list)
+        for_turn slot way last (items None list)
+        >>= looped list (turn_at last) (turn last) (typed.for slot way first limit_value list)
     statement (turn_at last label) (typed.for slot way first limit_value list) =
-        items (Some label) list >>= behind_turn slot way last list (typed.for slot way first limit_value list)
+        for_turn slot way last (items (Some label) list)
+        >>= looped list (turn_at last) (turn last) (typed.for slot way first limit_value list)
     statement from (typed.for slot way first limit_value list) = do
       low ← number_value first
       high ← number_value limit_value
-      for_from slot way low high (take_step
-          >> (items None list >>= behind_turn slot way high list (typed.for slot way first limit_value list)))
+      for_from slot way low high (take_step >> (for_turn slot way high (items None list)
+          >>= looped list (turn_at high) (turn high) (typed.for slot way first limit_value list)))
     statement from (typed.goto label) = pure (jump label)
-    statement from typed.goto_last = halt_at_last
+    statement from (typed.goto_last status) = stop (halted status)
     statement from (typed.file_step step place) = do
       spot ← spot_at place
       file ← ask (file_of spot)
@@ -489,20 +491,19 @@ module _ (limit : Option ℕ) (program : TypedProgram) (below : Doings) where
 
     -- the statements of a list in order, or those from a label on
     pub items : Option ℕ → Statements → Doing Store Flow
-    items from (typed.one label s) = statement start s
-    items None (typed.more list label s) = do
-      flow ← items None list
-      go_on flow (statement start s)
-    items (Some wanted) (typed.more list label s) =
-        if has_label list wanted then (do
-          flow ← items (Some wanted) list
-          go_on flow (statement start s)) else statement start s
+    items from typed.no_statements = pure next
+    items None (typed.item label s list) = do
+      flow ← statement start s
+      go_on flow (items None list)
+    items (Some wanted) (typed.item label s list) =
+        if has label wanted then (do
+          flow ← statement start s
+          go_on flow (items None list)) else items (Some wanted) list
 
     -- the statement of the element with this constant, or what is done without it
     pub arm : ℤ → Arms → Doing Store Flow → Doing Store Flow
-    arm found (typed.one_arm values s) otherwise =
-        if list_any (is_same found) values then statement start s else otherwise
-    arm found (typed.more_arms arms values s) otherwise =
+    arm found typed.no_arms otherwise = otherwise
+    arm found (typed.arm values s arms) otherwise =
         if list_any (is_same found) values then statement start s else arm found arms otherwise
 
 -- what statements do within a bound of steps

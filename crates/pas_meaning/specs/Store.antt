@@ -7,7 +7,7 @@ use Rattle.pas_types.specs.Types.{Range, PasType, Field, Structure, TableRow, Ta
 use Rattle.pas_types.specs.Typed as typed
 use Rattle.pas_types.specs.Typed.{Slot, Variable}
 use Rattle.pas_meaning.specs.declared.errors.TheConstants.{UNDEFINED_VALUE, OUT_OF_RANGE}
-use Rattle.pas_meaning.specs.Answers.{Answer, fine, wrong, then_answer, found}
+use Rattle.pas_meaning.specs.Answers.{Answer, fine, wrong, then_answer, or_wrong}
 
 -- what a variable holds: nothing that is defined, a number, or the elements of an array or the fields of a record
 mutual
@@ -134,7 +134,7 @@ number_in (holds value) = Some value
 number_in datum = None
 
 abbrev pub number_at : Reference → Store → Answer ℤ
-number_at reference store = found UNDEFINED_VALUE (number_in (fetched reference store))
+number_at reference store = or_wrong UNDEFINED_VALUE (number_in (fetched reference store))
 
 abbrev pub in_range : ℕ → Range → ℤ → Answer ℤ
 in_range kind range value = if is_within range value then fine value else wrong kind
@@ -154,7 +154,7 @@ fits table type datum = fits_by (range_of table type) datum
 -- what is read for a type: an ordinal is defined
 abbrev pub defined_by : Option Range → Datum → Answer Datum
 defined_by None datum = fine datum
-defined_by (Some range) datum = then_answer (found UNDEFINED_VALUE (number_in datum)) (λ value. fine (holds value))
+defined_by (Some range) datum = then_answer (or_wrong UNDEFINED_VALUE (number_in datum)) (λ value. fine (holds value))
 
 abbrev pub fetched_as : Table → PasType → Reference → Store → Answer Datum
 fetched_as table type reference store = defined_by (range_of table type) (fetched reference store)

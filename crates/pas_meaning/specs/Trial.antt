@@ -1,6 +1,6 @@
 -- Whole runs of a program on given files, within a bound of steps: how they end, what the files hold then, and what
 -- they held on the way. That a run on a machine may be too deep is this project's own.
-use Rattle.std.specs.Prelude.{ℕ, suc, ◌==◌, pos, List, [], ◌∷◌, map, zip, position, slice_get, codes}
+use Rattle.std.specs.Prelude.{ℕ, suc, ◌==◌, pos, List, [], ◌∷◌, map, reverse, zip, position, slice_get, codes}
 use Rattle.std.specs.Prelude.{if◌then◌else◌, Option, Some, None, option_map, unwrap_or}
 use Rattle.std.specs.Str.{bytes_eq}
 use Rattle.pas_types.specs.Types.{text, same_type}
@@ -97,14 +97,21 @@ unfoldable pub pascal_trial : TypedProgram → List (List ℕ) → ℕ → Resul
 pascal_trial program given steps =
     result_of (whole_run (Some CALL_LIMIT) program steps (run_at_start program given steps))
 
--- what a file tells at the end: its bytes, and how often it was reset or rewritten
+-- what a run answers: its end, and what each file tells then, its bytes and how often it was reset or rewritten
 pub record Told : Type 0 where
   pub bytes : List ℕ
   pub starts : ℕ
 
+pub record Report : Type 0 where
+  pub ending : Ending
+  pub files : List Told
+
 abbrev pub told_by : World → List Told
 told_by world = map (λ file. record { bytes = file.bytes; starts = file.starts }) world.files
 
--- the bytes of all files at each moment of a trial, the latest first
+abbrev pub report_of : Result → Report
+report_of result = record { ending = result.ending; files = told_by result.world }
+
+-- the bytes of all files at each moment of a trial, those at its start first
 abbrev pub pascal_moments : TypedProgram → List (List ℕ) → ℕ → List (List (List ℕ))
-pascal_moments program given steps = moments given (pascal_trial program given steps).world.trail
+pascal_moments program given steps = reverse (moments given (pascal_trial program given steps).world.trail)

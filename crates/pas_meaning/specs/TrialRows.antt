@@ -43,6 +43,10 @@ program_of list = record {
   statements = list;
 }
 
+-- one statement
+abbrev only : Statement → Statements
+only s = typed.item None s typed.no_statements
+
 abbrev number : ℕ → Value
 number value = typed.constant integer (pos value)
 
@@ -58,8 +62,8 @@ digit value = typed.applied typed.chr (typed.addition value adding.Plus (number 
 
 -- for i:=2147483646 to 2147483647 do writeln(output,chr(i mod 10+48))
 abbrev counting : TypedProgram
-counting = program_of (typed.one None (typed.for slot_i way.Up (number 2147483646) (number 2147483647)
-    (typed.one None (typed.writes_line the_output (typed.char_item
+counting = program_of (only (typed.for slot_i way.Up (number 2147483646) (number 2147483647)
+    (only (typed.writes_line the_output (typed.char_item
     (digit (typed.product (typed.read (typed.slot slot_i)) multiplying.Mod (number 10))) None ∷ [])))))
 
 pub two_steps_are_enough : shown (pascal_trial counting ([] ∷ []) 2)
@@ -77,7 +81,7 @@ abbrev minus : ℕ → Value
 minus value = typed.parenthesized (typed.signed sign.Minus (number value))
 
 abbrev quotients : TypedProgram
-quotients = program_of (typed.one None (typed.writes the_output
+quotients = program_of (only (typed.writes the_output
     (typed.char_item (digit (typed.product (minus 7) multiplying.Mod (number 3))) None
     ∷ typed.char_item (digit (typed.addition (typed.product (minus 7) multiplying.Div (number 2)) adding.Plus
     (number 3))) (Some (number 3)) ∷ [])))
@@ -89,7 +93,7 @@ quotients_written = refl
 
 -- while true do write(output,'1')
 abbrev forever : TypedProgram
-forever = program_of (typed.one None (typed.while (number 1) (typed.one None (written (letter 49) None))))
+forever = program_of (only (typed.while (number 1) (only (written (letter 49) None))))
 
 pub no_turn : shown (pascal_trial forever ([] ∷ []) 0) ≡ record { ending = ended going; bytes = [] ∷ [] }
 unfolding pascal_trial
@@ -102,13 +106,13 @@ three_turns = refl
 
 -- write(output,chr(i+48)), where i is undefined
 pub undefined_written : shown (pascal_trial
-    (program_of (typed.one None (written (digit (typed.read (typed.slot slot_i))) None))) ([] ∷ []) 0)
+    (program_of (only (written (digit (typed.read (typed.slot slot_i))) None))) ([] ∷ []) 0)
     ≡ record { ending = error UNDEFINED_VALUE; bytes = [] ∷ [] }
 unfolding pascal_trial
 undefined_written = refl
 
 -- begin 5: write(output,'1'); goto 5 end at 2 steps: a step is taken where a goto lands
-pub goto_takes_a_step : shown (pascal_trial (program_of (typed.more (typed.one (Some 5) (written (letter 49) None)) None
-    (typed.goto 5))) ([] ∷ []) 2) ≡ record { ending = ended going; bytes = codes "111" ∷ [] }
+pub goto_takes_a_step : shown (pascal_trial (program_of (typed.item (Some 5) (written (letter 49) None) (only
+    (typed.goto 5)))) ([] ∷ []) 2) ≡ record { ending = ended going; bytes = codes "111" ∷ [] }
 unfolding pascal_trial
 goto_takes_a_step = refl

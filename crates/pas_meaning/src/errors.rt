@@ -2,7 +2,7 @@
 
 /// A value is used that is undefined.
 pub const UNDEFINED_VALUE: u8 = 1;
-/// A value is stored or passed that is out of its range.
+/// A value is out of the range of what it is stored or passed to, or a byte that is read is no component of its file.
 pub const OUT_OF_RANGE: u8 = 2;
 /// An index is out of its range.
 pub const INDEX_OUT_OF_RANGE: u8 = 3;
@@ -29,5 +29,5 @@ pub const UNDEFINED_RESULT: u8 = 13;
 /// The argument of `uexit` is not from 0 to 255.
 pub const STATUS_OUT_OF_RANGE: u8 = 14;
 
-/// So many calls may be active where a program is run.
+/// So many calls may be active in a trial; one more is too deep. This project's own.
 pub const CALL_LIMIT: u32 = 999;

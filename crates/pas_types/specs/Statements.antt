@@ -248,7 +248,8 @@ module _ (scopes : Scopes) where
     arms_of around before base (tree.first_element constants colon s) =
         let values = constants_of scopes base [] constants in
         let found = statement_of elsewhere around before s in
-        judged (joined (values.marks ∷ quiet ∷ found.marks ∷ [])) (both (with_arm typed.no_arms) values.value found.value)
+        judged (joined (values.marks ∷ quiet ∷ found.marks ∷ []))
+        (both (with_arm typed.no_arms) values.value found.value)
     arms_of around before base (tree.more_elements elements line constants colon s) =
         let arms = arms_of around before base elements in
         let values = constants_of scopes base (constants_in scopes elements) constants in
