@@ -115,7 +115,7 @@ fn passed_to(
         let argument = argument_at(arguments, index);
         let behind = line_behind_value(arguments, index);
         let parameter = parameters.get(index);
-        passed.push(argument_of(scopes, parameter, &argument.value, behind)?)?;
+        passed.push(argument_of(scopes, parameter, &argument.value)?.before(behind)?)?;
         no_width(argument)?;
     }
     demand(

@@ -148,9 +148,11 @@ fn factor_of(scopes: &Scopes<'_>, factor: &Factor) -> Result<Judged<Value>, Stop
             Ok(Judged::lawful(Value::Constant(found.base, found.value), found.line))
         }
         Factor::Parenthesized(_, expr, closed) => {
-            let value = value_of(scopes, expr.get())?.before(*closed)?;
-            let value = Value::Parenthesized(Boxed::new(scopes.alloc, value)?);
-            Ok(Judged::lawful(value, *closed))
+            let part = value_of(scopes, expr.get())?.closed(*closed)?;
+            Ok(Judged {
+                value: Value::Parenthesized(Boxed::new(scopes.alloc, part.value)?),
+                end: part.end,
+            })
         }
         Factor::Negated(_, factor) => {
             let operand = factor_of(scopes, factor.get())?;

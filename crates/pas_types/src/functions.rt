@@ -7,7 +7,7 @@ use crate::stop::{Stop, demand, fault};
 use crate::type_forms::char_of;
 use crate::typed::{Call, FileTest, Function, Heading, Mode, Passed, Place, Value, Variable};
 use crate::types::{Base, PasType};
-use crate::variables::{line_behind, whole};
+use crate::variables::whole;
 use pas_syntax::tree::{Expr, Exprs, Factor, FunctionCall, Ident, Sum, Term};
 use sqlite_items::{Boxed, Items};
 use wb_base::faults::{FILE_RULE, UNKNOWN_NAME, WRONG_TYPE};
@@ -81,19 +81,22 @@ pub(crate) fn test_alone(
 // What the call of a function with arguments means.
 #[cycle(expression)]
 pub(crate) fn called(scopes: &Scopes<'_>, call: &FunctionCall) -> Result<Judged<Value>, Stop> {
-    let value = match scopes.named(call.name) {
-        Some(Entity::Routine(number)) => routine_called(scopes, call, number)?,
-        Some(Entity::Function(function)) => applied(scopes, call, function)?,
-        Some(Entity::FileTest(test)) => tested(scopes, call, test)?,
-        Some(_) => return Err(fault(WRONG_TYPE, call.name.line)),
-        None => return Err(fault(UNKNOWN_NAME, call.name.line)),
-    };
-    Ok(Judged::lawful(value, call.closed))
+    match scopes.named(call.name) {
+        Some(Entity::Routine(number)) => routine_called(scopes, call, number),
+        Some(Entity::Function(function)) => applied(scopes, call, function),
+        Some(Entity::FileTest(test)) => tested(scopes, call, test),
+        Some(_) => Err(fault(WRONG_TYPE, call.name.line)),
+        None => Err(fault(UNKNOWN_NAME, call.name.line)),
+    }
 }
 
 // What the call of a declared function with arguments means.
 #[cycle(expression)]
-fn routine_called(scopes: &Scopes<'_>, call: &FunctionCall, number: u32) -> Result<Value, Stop> {
+fn routine_called(
+    scopes: &Scopes<'_>,
+    call: &FunctionCall,
+    number: u32,
+) -> Result<Judged<Value>, Stop> {
     match scopes.heading_of(number) {
         Some(
             Heading {
@@ -102,12 +105,17 @@ fn routine_called(scopes: &Scopes<'_>, call: &FunctionCall, number: u32) -> Resu
                 ..
             },
         ) => {
+            let parameters = parameters.as_slice();
+            let passed = passed_to(scopes, parameters, &call.arguments, call.closed)?;
             let call = Call {
                 routine: number,
                 pas_type: *pas_type,
-                passed: passed_to(scopes, parameters.as_slice(), &call.arguments, call.closed)?,
+                passed: passed.value,
             };
-            Ok(Value::Call(Boxed::new(scopes.alloc, call)?))
+            Ok(Judged {
+                value: Value::Call(Boxed::new(scopes.alloc, call)?),
+                end: passed.end,
+            })
         }
         _ => Err(fault(WRONG_TYPE, call.name.line)),
     }
@@ -120,50 +128,55 @@ fn passed_to(
     parameters: &[Variable],
     arguments: &Exprs,
     closed: u32,
-) -> Result<Items<Passed>, Stop> {
+) -> Result<Judged<Items<Passed>>, Stop> {
     let mut passed = Items::new(scopes.alloc);
-    let behind = line_behind(arguments, 0, closed);
-    passed.push(argument_of(scopes, parameters.first(), &arguments.first, behind)?)?;
+    let mut last = argument_of(scopes, parameters.first(), &arguments.first)?;
     for (index, more) in arguments.more.as_slice().iter().enumerate() {
-        let behind = line_behind(arguments, index + 1, closed);
-        let parameter = parameters.get(index + 1);
-        passed.push(argument_of(scopes, parameter, &more.value, behind)?)?;
+        passed.push(last.before(more.line)?)?;
+        last = argument_of(scopes, parameters.get(index + 1), &more.value)?;
     }
+    let last = last.closed(closed)?;
+    passed.push(last.value)?;
     demand(parameters.len() <= passed.len(), WRONG_TYPE, closed)?;
-    Ok(passed)
+    Ok(Judged {
+        value: passed,
+        end: last.end,
+    })
 }
 
-// An argument as it is passed to a parameter, if there is one, where the token behind it stands in this line. One too
-// many shows it at its first token.
+// An argument as it is passed to a parameter, if there is one. One too many shows it at its first token.
 #[cycle(expression)]
 pub(crate) fn argument_of(
     scopes: &Scopes<'_>,
     parameter: Option<&Variable>,
     expr: &Expr,
-    behind: u32,
-) -> Result<Passed, Stop> {
+) -> Result<Judged<Passed>, Stop> {
     match parameter {
         Some(parameter) => {
             let found = value_of(scopes, expr)?;
-            passed_by(scopes, *parameter, found, behind)
+            passed_by(scopes, *parameter, found)
         }
         None => Err(one_too_many(scopes, expr)),
     }
 }
 
-// A value as it is passed, where the token behind it stands in this line.
+// A value as it is passed.
 fn passed_by(
     scopes: &Scopes<'_>,
     parameter: Variable,
     found: Judged<Value>,
-    behind: u32,
-) -> Result<Passed, Stop> {
+) -> Result<Judged<Passed>, Stop> {
     let is_fit = fits_parameter(scopes, parameter, &found.value);
-    let value = found.noted(is_fit, WRONG_TYPE).before(behind)?;
-    match (parameter.mode, value) {
-        (Mode::ByName, Value::Read(place)) => Ok(Passed::Reference(place.into_inner())),
-        (_, value) => Ok(Passed::Value(parameter.pas_type, value)),
-    }
+    let found = found.noted(is_fit, WRONG_TYPE);
+    found.end.stands()?;
+    let passed = match (parameter.mode, found.value) {
+        (Mode::ByName, Value::Read(place)) => Passed::Reference(place.into_inner()),
+        (_, value) => Passed::Value(parameter.pas_type, value),
+    };
+    Ok(Judged {
+        value: passed,
+        end: found.end,
+    })
 }
 
 // Whether a value may be passed: a variable parameter takes a variable of its type that is no buffer of a file,
@@ -189,13 +202,33 @@ fn first_value(scopes: &Scopes<'_>, call: &FunctionCall) -> Result<Judged<Value>
 
 // What a required function of its one argument means.
 #[cycle(expression)]
-fn applied(scopes: &Scopes<'_>, call: &FunctionCall, function: Function) -> Result<Value, Stop> {
+fn applied(
+    scopes: &Scopes<'_>,
+    call: &FunctionCall,
+    function: Function,
+) -> Result<Judged<Value>, Stop> {
     let found = first_value(scopes, call)?;
     let is_fit = takes(scopes, function, found.value.pas_type());
-    let behind = line_behind(&call.arguments, 0, call.closed);
-    let value = found.noted(is_fit, WRONG_TYPE).before(behind)?;
-    nothing_more(scopes, &call.arguments)?;
-    Ok(Value::Applied(function, Boxed::new(scopes.alloc, value)?))
+    let found = sole(scopes, call, found.noted(is_fit, WRONG_TYPE))?;
+    Ok(Judged {
+        value: Value::Applied(function, Boxed::new(scopes.alloc, found.value)?),
+        end: found.end,
+    })
+}
+
+// The first argument of a call, behind which none may stand.
+fn sole(
+    scopes: &Scopes<'_>,
+    call: &FunctionCall,
+    found: Judged<Value>,
+) -> Result<Judged<Value>, Stop> {
+    match call.arguments.more.get(0) {
+        Some(more) => {
+            found.before(more.line)?;
+            Err(one_too_many(scopes, &more.value))
+        }
+        None => found.closed(call.closed),
+    }
 }
 
 // Whether a required function takes values of a type.
@@ -208,7 +241,7 @@ fn takes(scopes: &Scopes<'_>, function: Function, pas_type: PasType) -> bool {
 
 // What a question to a file means.
 #[cycle(expression)]
-fn tested(scopes: &Scopes<'_>, call: &FunctionCall, test: FileTest) -> Result<Value, Stop> {
+fn tested(scopes: &Scopes<'_>, call: &FunctionCall, test: FileTest) -> Result<Judged<Value>, Stop> {
     let found = first_value(scopes, call)?;
     let is_fit = match test {
         FileTest::Eof => true,
@@ -216,10 +249,18 @@ fn tested(scopes: &Scopes<'_>, call: &FunctionCall, test: FileTest) -> Result<Va
             !is_file(scopes, &found.value) || found.value.pas_type() == PasType::Text
         }
     };
-    let behind = line_behind(&call.arguments, 0, call.closed);
-    let file = file_only(scopes, found.noted(is_fit, FILE_RULE), behind)?;
-    nothing_more(scopes, &call.arguments)?;
-    Ok(Value::Tested(test, file))
+    let is_named = is_file(scopes, &found.value);
+    let found = found.noted(is_fit, FILE_RULE).noted(is_named, WRONG_TYPE);
+    match sole(scopes, call, found)? {
+        Judged {
+            value: Value::Read(file),
+            end,
+        } => Ok(Judged {
+            value: Value::Tested(test, file),
+            end,
+        }),
+        found => Err(fault(WRONG_TYPE, found.end.line)),
+    }
 }
 
 // Whether a value is a file.
@@ -241,14 +282,6 @@ pub(crate) fn file_only(
     match found.noted(is_fit, WRONG_TYPE).before(behind)? {
         Value::Read(place) => Ok(place),
         _ => Err(fault(WRONG_TYPE, line)),
-    }
-}
-
-// Refuses a second argument.
-fn nothing_more(scopes: &Scopes<'_>, arguments: &Exprs) -> Result<(), Stop> {
-    match arguments.more.get(0) {
-        Some(more) => Err(one_too_many(scopes, &more.value)),
-        None => Ok(()),
     }
 }
 

@@ -1,6 +1,7 @@
 //! Parts that were looked at.
 
 use crate::stop::{Stop, Wrong, before, shown};
+use wb_base::faults::WRONG_TYPE;
 
 // The end of a part: the line of its last token, the lowest fault that this token shows because the part breaks a
 // rule, and whether something is missing at the token behind.
@@ -34,6 +35,19 @@ impl End {
         End {
             is_short: true,
             ..self
+        }
+    }
+
+    // The end of a larger part that the token behind this one closes, in this line.
+    fn closed(self, line: u32) -> End {
+        let end = End::lawful(line);
+        if self.is_short {
+            end.refused(Wrong {
+                code: WRONG_TYPE,
+                which: 0,
+            })
+        } else {
+            end
         }
     }
 
@@ -90,6 +104,16 @@ impl<T: Drop> Judged<T> {
             value,
             end: end.refused(found),
         }
+    }
+
+    // This, where the last token breaks no rule, and the token behind closes a larger part, in this line.
+    pub(crate) fn closed(self, line: u32) -> Result<Judged<T>, Stop> {
+        self.end.stands()?;
+        let Judged { value, end } = self;
+        Ok(Judged {
+            value,
+            end: end.closed(line),
+        })
     }
 
     // What a part means that breaks no rule.

@@ -2,7 +2,7 @@
 
 use crate::expressions::{only, value_of};
 use crate::functions::one_too_many;
-use crate::judged::Judged;
+use crate::judged::{End, Judged};
 use crate::scopes::{Entity, Scopes};
 use crate::stop::{Stop, demand, fault};
 use crate::typed::{Part, Place, Slot};
@@ -24,21 +24,12 @@ pub(crate) fn whole(scopes: &Scopes<'_>, slot: Slot) -> Place {
 pub(crate) fn place_of(scopes: &Scopes<'_>, variable: &Variable) -> Result<Judged<Place>, Stop> {
     let slot = variable_named(scopes, variable.name)?;
     let mut place = whole(scopes, slot);
-    let mut line = variable.name.line;
+    let mut end = End::lawful(variable.name.line);
     for selector in variable.selectors.as_slice() {
-        select(scopes, &mut place, line, selector)?;
-        line = selector_line(selector);
+        end.stands()?;
+        end = select(scopes, &mut place, end.line, selector)?;
     }
-    Ok(Judged::lawful(place, line))
-}
-
-// The line of the last token of a selector.
-fn selector_line(selector: &Selector) -> u32 {
-    match selector {
-        Selector::Indexes(_, _, closed) => *closed,
-        Selector::Field(_, ident) => ident.line,
-        Selector::Buffer(line) => *line,
-    }
+    Ok(Judged { value: place, end })
 }
 
 // The variable that a name stands for.
@@ -50,22 +41,28 @@ fn variable_named(scopes: &Scopes<'_>, ident: Ident) -> Result<Slot, Stop> {
     }
 }
 
-// Selects a part of a place, of which the last token stands in this line.
+// Selects a part of a place, of which the last token stands in this line, and tells its end.
 #[cycle(expression)]
 fn select(
     scopes: &Scopes<'_>,
     place: &mut Place,
     line: u32,
     selector: &Selector,
-) -> Result<(), Stop> {
+) -> Result<End, Stop> {
     match selector {
         Selector::Indexes(_, indexes, closed) => {
             let is_array = scopes.types.elements_of(place.pas_type()).is_some();
             demand(is_array, WRONG_TYPE, line)?;
             select_elements(scopes, place, indexes.get(), *closed)
         }
-        Selector::Field(_, ident) => select_field(scopes, place, line, *ident),
-        Selector::Buffer(_) => select_buffer(scopes, place, line),
+        Selector::Field(_, ident) => {
+            select_field(scopes, place, line, *ident)?;
+            Ok(End::lawful(ident.line))
+        }
+        Selector::Buffer(caret) => {
+            select_buffer(scopes, place, line)?;
+            Ok(End::lawful(*caret))
+        }
     }
 }
 
@@ -76,41 +73,30 @@ fn select_elements(
     place: &mut Place,
     indexes: &Exprs,
     closed: u32,
-) -> Result<(), Stop> {
-    select_element(
-        scopes,
-        place,
-        &indexes.first,
-        line_behind(indexes, 0, closed),
-    )?;
-    for (index, more) in indexes.more.as_slice().iter().enumerate() {
-        let behind = line_behind(indexes, index + 1, closed);
-        select_element(scopes, place, &more.value, behind)?;
+) -> Result<End, Stop> {
+    let mut last = element_by(scopes, place, &indexes.first)?;
+    for more in indexes.more.as_slice() {
+        place.parts.push(last.before(more.line)?)?;
+        last = element_by(scopes, place, &more.value)?;
     }
-    Ok(())
+    let last = last.closed(closed)?;
+    place.parts.push(last.value)?;
+    Ok(last.end)
 }
 
-// The line of the token behind one of some expressions.
-pub(crate) fn line_behind(exprs: &Exprs, index: usize, closed: u32) -> u32 {
-    match exprs.more.get(index) {
-        Some(more) => more.line,
-        None => closed,
-    }
-}
-
-// Selects an element by an index, which is of the base of the indexes. An index too many shows it at its first token.
+// The element of a place by an index, which is of the base of the indexes. An index too many shows it at its first
+// token.
 #[cycle(expression)]
-fn select_element(
-    scopes: &Scopes<'_>,
-    place: &mut Place,
-    index: &Expr,
-    behind: u32,
-) -> Result<(), Stop> {
+fn element_by(scopes: &Scopes<'_>, place: &Place, index: &Expr) -> Result<Judged<Part>, Stop> {
     match scopes.types.elements_of(place.pas_type()) {
         Some(ArrayParts { indexes, element }) => {
             let found = value_of(scopes, index)?;
-            let value = only(scopes, indexes.base, found).before(behind)?;
-            Ok(place.parts.push(Part::Element(indexes, element, value))?)
+            let found = only(scopes, indexes.base, found);
+            found.end.stands()?;
+            Ok(Judged {
+                value: Part::Element(indexes, element, found.value),
+                end: found.end,
+            })
         }
         None => Err(one_too_many(scopes, index)),
     }
