@@ -494,6 +494,9 @@ fn checks_transfers(rt: HostRuntime) -> Result<(), Fail> {
             text: b"program t(input);function f(a:char):char;begin f:=a end;begin read(\nf\n) end.",
         },
         Row { shows: (56, 0, 2), text: b"program t(output);begin write(\neof) end." },
+        Row { shows: (53, 9, 2), text: b"program t(input);begin read(abs(abs\n)) end." },
+        Row { shows: (53, 9, 2), text: b"program t(input);begin read((abs\n)) end." },
+        Row { shows: (53, 9, 2), text: b"program t(input);var a:array[1..2] of integer;begin read(a[abs\n]) end." },
     ];
     for (index, row) in rows.iter().enumerate() {
         let got = answer(rt.alloc(), row.text)?;

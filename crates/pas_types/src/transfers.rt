@@ -2,6 +2,7 @@
 
 use crate::calls::{Extent, argument_at, first_value, line_behind, line_behind_value, no_width};
 use crate::expressions::{only, value_of};
+use crate::functions::is_file;
 use crate::judged::Judged;
 use crate::scopes::Scopes;
 use crate::stop::{Stop, Wrong, demand, fault};
@@ -53,17 +54,23 @@ fn transfer_of(
 // The file that the first argument names, if it does.
 fn named_file(scopes: &Scopes<'_>, arguments: &Arguments) -> Result<Option<Judged<Place>>, Stop> {
     match first_value(scopes, arguments) {
-        Ok(
-            Judged {
-                value: Value::Read(place),
-                end,
-            },
-        ) if scopes.types.is_file(place.get().pas_type()) => Ok(Some(Judged {
-            value: place.into_inner(),
-            end,
-        })),
+        Ok(found) => Ok(file_in(scopes, found)),
         Err(Stop::OutOfMemory) => Err(Stop::OutOfMemory),
-        _ => Ok(None),
+        Err(_stop) => Ok(None),
+    }
+}
+
+// The file that a value is, if it is one.
+fn file_in(scopes: &Scopes<'_>, found: Judged<Value>) -> Option<Judged<Place>> {
+    if !is_file(scopes, &found.value) {
+        return None;
+    }
+    match found.value {
+        Value::Read(place) => Some(Judged {
+            value: place.into_inner(),
+            end: found.end,
+        }),
+        _other => None,
     }
 }
 
