@@ -1,16 +1,16 @@
 -- From what the folder and the packer say of an item, or of the end, to what is said of the lines.
-use Rattle.std.proofs.Common.{◌≡◌, ℕ, ◌+◌, ◌*◌, ◌<◌, ◌≤◌, List, [], ◌∷◌, ◌++◌, length, take, Option, Some, None}
-use Rattle.std.proofs.Common.{Result, OnOk, Ok, Err, refl, sym, ◌∙◌, ap, subst, append_assoc, arith, length-append, All}
+use Rattle.std.proofs.Common.{◌≡◌, ℕ, ◌+◌, ◌<◌, ◌≤◌, List, [], ◌∷◌, ◌++◌, length, Option, Some, None}
+use Rattle.std.proofs.Common.{Result, OnOk, OnErr, IfErr, Ok, Err, refl, sym, ◌∙◌, ap, subst, append_assoc, arith, length-append}
 use Rattle.std.proofs.Common.{◌⊎◌, inl, inr}
 use Rattle.std.proofs.lemmas.List.{append-nil}
-use Rattle.std.proofs.lemmas.List.Elements.{All-tail}
+use Rattle.std.proofs.lemmas.List.Elements.{All-tail, All-cons, All-nil}
 use Rattle.std.specs.Prelude.{option_map}
 use Rattle.wb_base.specs.declared.places.FileTag.TheVariants.{Pas}
 use Rattle.wb_base.specs.declared.faults.Fault.{Fault as Flaw}
 use Rattle.wb_base.specs.declared.faults.TheConstants.{LINE_NOT_CUT}
 use Rattle.wb_base.specs.FaultAt.{fault_at}
 use Rattle.wb_ports.specs.Held.{Gains, GainsPrefix}
-use Rattle.wb_ports.proofs.HeldLemmas.{gains_on, gains_nothing, gains_prefix_on, prefix_of_gain, prefix_of_more}
+use Rattle.wb_ports.proofs.HeldLemmas.{gains_on, gains_nothing, gains_prefix_on, prefix_of_more}
 use Rattle.macro_expand.specs.declared.refusals.ExpandErr.{ExpandErr}
 use Rattle.macro_expand.specs.declared.limits.TheConstants.{STEP_LIMIT}
 use Rattle.macro_expand.specs.Items.{Expanded}
@@ -19,19 +19,19 @@ use Rattle.tangle_out.specs.declared.packing.TheConstants.{WIDTH}
 use Rattle.tangle_out.specs.declared.pieces.OutErr.{OutErr}
 use Rattle.tangle_out.specs.declared.pieces.OutErr.TheVariants.{Fault, Failed}
 use Rattle.tangle_out.specs.Pieces.{Piece}
-use Rattle.tangle_out.specs.Folding.{Folded, folded, folded_whole}
-use Rattle.tangle_out.specs.Folder.{FolderState, HasRoomFor, IsShort, Adds, Shows, AddsAtEnd, ShowsAtEnd}
+use Rattle.tangle_out.specs.Folding.{Folded, folded}
+use Rattle.tangle_out.specs.Folder.{FolderState, HasRoomFor, IsShort, Adds, Shows, AddsAtEnd}
 use Rattle.tangle_out.specs.Folder.{Stands as FolderStands}
-use Rattle.tangle_out.specs.Packing.{Packed, text_of_lines, and_then, with_pieces, nothing_packed, finished_lines}
+use Rattle.tangle_out.specs.Packing.{text_of_lines, finished_lines}
 use Rattle.tangle_out.specs.Packing.{packed_lines, forced_line, Finishes, EndFinishes}
 use Rattle.tangle_out.specs.Packer.{PackerState, Stands as PackerStands}
 use Rattle.tangle_out.proofs.FolderLemmas.{Stands-room}
-use Rattle.tangle_core.specs.Tangled.{Lined, number_of, lined, lined_to_end, folded_to_end, tangled, fault_after}
-use Rattle.tangle_core.specs.inner.Emitting.{lined_behind, so_far, made_of, Tells, Breaks, Whole, Sent, CanCount, At}
+use Rattle.tangle_core.specs.Tangled.{Lined, number_of, lined, lined_to_end, tangled, fault_after}
+use Rattle.tangle_core.specs.inner.Emitting.{lined_behind, so_far, made_of, Breaks, Whole, Sent, CanCount, At}
 use Rattle.tangle_core.specs.inner.Emitting.{Going, Packs, IfFaultCode}
-use Rattle.tangle_core.proofs.LinedLemmas.{lined-packed, lined-stands, lined-Finishes, lined-fault}
+use Rattle.tangle_core.proofs.LinedLemmas.{lined-stands, lined-Finishes, lined-fault}
 use Rattle.tangle_core.proofs.LinedLemmas.{lined-finished, finished-few, Front, lined-front}
-use Rattle.tangle_core.proofs.FoldedLemmas.{so_far-none, so_far-stays, so_far-front, lined_to_end-fault, made_of-fault}
+use Rattle.tangle_core.proofs.FoldedLemmas.{so_far-stays, so_far-front, lined_to_end-fault, made_of-fault}
 
 text_of_lines-append : (a b : List (List ℕ)) → text_of_lines (a ++ b) ≡ text_of_lines a ++ text_of_lines b
 text_of_lines-append [] b = refl
@@ -157,6 +157,30 @@ pub Packs-end : (whole : List Piece) (first packer : PackerState) (first_held he
 Packs-end whole first packer first_held held packs before start sent =
     let there = packs.sends before start sent in
     subst (λ (l : List Piece). Sent packer l start held) (sym (append-nil there.0) ∙ there.1.1) there.1.0
+
+-- one piece
+pub Packs-one : (packer : PackerState) (piece : Piece) (held : Option (List ℕ)) → CanCount packer 4 → IsShort piece
+    → Packs (piece ∷ []) packer held packer (piece ∷ []) held
+Packs-one packer piece held count short = record {
+  can_count = record { pieces = count.pieces; stands = count.stands; few = omega (arith, count.few) };
+  short = All-cons IsShort piece [] short (All-nil IsShort);
+  sends = λ before start sent. (before, (sent, refl));
+}
+
+pub counts-piece : (T : Type 0) (r : Result T OutErr) (packer next : PackerState) (piece : Piece) → CanCount packer 4
+    → OnOk r ((pieces : List Piece) → PackerStands WIDTH packer pieces
+    → PackerStands WIDTH next (pieces ++ piece ∷ []))
+    → OnErr r (next ≡ packer) → next.finished < 4294967295
+counts-piece T (Ok value) packer next piece count stands same =
+    omega (
+      arith,
+      finished-few next (count.pieces ++ piece ∷ []) (stands count.pieces count.stands),
+      count.few,
+      length-append count.pieces (piece ∷ []),
+    )
+counts-piece T (Err error) packer next piece count stands same =
+    subst (λ (p : PackerState). p.finished < 4294967295) (sym same)
+    (omega (arith, finished-few packer count.pieces count.stands, count.few))
 
 -- ---- an item
 
@@ -433,6 +457,11 @@ if_fault T Failed P code which holds = tt
 if_fault T (Fault other) P code (inl failed) holds = absurd (cc)
 if_fault T (Fault other) P code (inr is) holds =
     let same : code ≡ other = cc in subst P same (holds is)
+
+pub if_fault_of : (T : Type 0) (r : Result T OutErr) (P : ℕ → Type 0) (code : ℕ)
+    → IfErr r (λ error. (error ≡ Failed) ⊎ (error ≡ Fault code)) → (r ≡ Err (Fault code) → P code) → IfFaultCode r P
+if_fault_of T (Ok value) P code which holds = tt
+if_fault_of T (Err error) P code which holds = if_fault T error P code which (λ is. holds (ap Err is))
 
 pub if_fault-map : (T : Type 0) (r : Result T OutErr) (P Q : ℕ → Type 0) → ((code : ℕ) → P code → Q code)
     → IfFaultCode r P → IfFaultCode r Q

@@ -1,5 +1,5 @@
 -- The pieces of items, and of more items behind them; and the lines of both.
-use Rattle.std.proofs.Common.{◌≡◌, ℕ, ◌+◌, ◌≤◌, List, [], ◌∷◌, ◌++◌, reverse, length, Option, Some, None, Result, Ok}
+use Rattle.std.proofs.Common.{◌≡◌, ℕ, List, [], ◌∷◌, ◌++◌, reverse, Option, Some, None, Result, Ok}
 use Rattle.std.proofs.Common.{Err}
 use Rattle.std.proofs.Common.{refl, sym, ◌∙◌, ap, subst, append_assoc}
 use Rattle.std.proofs.lemmas.List.{append-nil, reverse-append}
@@ -7,12 +7,12 @@ use Rattle.std.specs.Option.{option_or}
 use Rattle.macro_expand.specs.declared.refusals.ExpandErr.{ExpandErr}
 use Rattle.macro_expand.specs.Items.{Expanded}
 use Rattle.tangle_out.specs.Pieces.{Piece}
-use Rattle.tangle_out.specs.Folding.{Folded, with_added, and_then, folded_before, folded, folded_whole, added_by_item}
+use Rattle.tangle_out.specs.Folding.{Folded, with_added, and_then, folded_before, folded, added_by_item}
 use Rattle.tangle_out.specs.Folding.{added_at_end}
 use Rattle.tangle_out.specs.Packing.{forced_line}
 use Rattle.tangle_core.specs.Tangled.{Lined, number_of, folded_to_end, lined, lined_to_end}
 use Rattle.tangle_core.specs.inner.Emitting.{lined_behind, so_far, made_of}
-use Rattle.tangle_core.proofs.LinedLemmas.{Front, front-same, front-then, lined-front, lined-stays}
+use Rattle.tangle_core.proofs.LinedLemmas.{Front, front-then, lined-front, lined-stays}
 
 -- one item more
 folded-item : (items : List Expanded) (item : Expanded)

@@ -14,7 +14,7 @@ ghost use Rattle.tangle_core.specs.inner.Emitting.{At, Sent, Breaks, Whole, CanC
 
 use arrayvec::ArrayVec;
 use macro_expand::Item;
-use tangle_out::{Folder, OutErr, OutPiece, Packer};
+use tangle_out::{Folder, OutErr, OutPiece, Packer, Step};
 use wb_ports::Sink;
 
 // The most pieces that an item or the end adds.
@@ -64,6 +64,33 @@ impl<'w> Output<'w> {
         ensures cause { CountsFailure (is_failed result) (K.faults sink.old) (K.faults sink.new) }
         ensures frame { K.frame sink.new ≡ K.frame sink.old }
     {
+        match self.folder.step(item) {
+            Step::Nothing => Ok(()),
+            Step::Gives(piece) => pack_piece(piece, &mut self.packer, sink),
+            Step::Left => self.push_pieces(item, sink),
+        }
+    }
+
+    // The same for an item that may add several pieces, or show a fault.
+    #[cold]
+    fn push_pieces<K: Sink>(&mut self, item: Item<'w>, sink: &mut K) -> Result<(), OutErr>
+        requires item { IsFoldable (item_of item) }
+        requires room { HasRoomFor self.old.folder (item_of item) }
+        requires countable { CanCount self.old.packer MOST_PIECES }
+        ensures ok { OnOk result ((items : List Expanded) (start : Option (List ℕ))
+            → At self.old.folder self.old.packer items start (K.held sink.old)
+            → At self.new.folder self.new.packer (items ++ item_of item.entry ∷ []) start (K.held sink.new)) }
+        ensures fault { IfFaultCode result (λ code. (items : List Expanded) (start : Option (List ℕ))
+            → At self.old.folder self.old.packer items start (K.held sink.old)
+            → Breaks (so_far (items ++ item_of item.entry ∷ [])) code self.new.packer.finished
+            start (K.held sink.new)) }
+        ensures failed { result ≡ Err OutErr.Failed → (items : List Expanded) (start : Option (List ℕ))
+            → At self.old.folder self.old.packer items start (K.held sink.old)
+            → GainsPrefix (text_of_lines (so_far (items ++ item_of item.entry ∷ [])).lines) start (K.held sink.new) }
+        ensures counted { self.new.packer.finished < u32.MAX }
+        ensures cause { CountsFailure (is_failed result) (K.faults sink.old) (K.faults sink.new) }
+        ensures frame { K.frame sink.new ≡ K.frame sink.old }
+    {
         let pieces = match self.folder.push(item) {
             Ok(pieces) => pieces,
             Err(code) => return Err(OutErr::Fault(code)),
@@ -94,6 +121,27 @@ impl<'w> Output<'w> {
         pack(pieces, &mut self.packer, sink)?;
         self.packer.finish(sink)
     }
+}
+
+// Packs a piece.
+fn pack_piece<K: Sink>(piece: OutPiece<'_>, packer: &mut Packer, sink: &mut K) -> Result<(), OutErr>
+    requires short { IsShort (piece_of piece) }
+    requires countable { CanCount packer.old MOST_PIECES }
+    ensures ok { OnOk result ((before : List Piece) (start : Option (List ℕ))
+        → Sent packer.old before start (K.held sink.old)
+        → Sent packer.new (before ++ piece_of piece.entry ∷ []) start (K.held sink.new)) }
+    ensures fault { IfFaultCode result (λ code. (before : List Piece) (start : Option (List ℕ))
+        → Sent packer.old before start (K.held sink.old)
+        → (rest : List Piece) → Breaks (lined ((before ++ piece_of piece.entry ∷ []) ++ rest)) code
+        packer.new.finished start (K.held sink.new)) }
+    ensures failed { result ≡ Err OutErr.Failed → (before : List Piece) (start : Option (List ℕ))
+        → Sent packer.old before start (K.held sink.old)
+        → GainsPrefix (text_of_lines (lined (before ++ piece_of piece.entry ∷ [])).lines) start (K.held sink.new) }
+    ensures counted { packer.new.finished < u32.MAX }
+    ensures cause { CountsFailure (is_failed result) (K.faults sink.old) (K.faults sink.new) }
+    ensures frame { K.frame sink.new ≡ K.frame sink.old }
+{
+    packer.push(piece, sink)
 }
 
 // Packs pieces, one after another.

@@ -7,7 +7,7 @@ use std::test::Fail;
 use wb_base::faults::{
     CONSTANT_TOO_BIG, LINE_NOT_CUT, METACOMMENT_NOT_ENDED, NO_PARAMETER_GIVEN,
     NUMBERS_WITHOUT_SIGN, REAL_CONSTANT, SECTION_NOT_PRESENT, STRAY_END_OF_METACOMMENT,
-    STRING_TOO_LONG, TOO_MANY_LEVELS,
+    STRING_TOO_LONG, TOO_MANY_LEVELS, TOO_MANY_STEPS,
 };
 use wb_base::{Case, Fault, FileTag, Options, OutOfMemory, Place, Text, WorkErr};
 use wb_ports::{MemShelf, MemSink};
@@ -55,11 +55,7 @@ fn scan_text(alloc: Global, text: &[u8]) -> Result<Web, WorkErr> {
 // Macros whose arguments stand behind them one after another.
 const HELPERS: &[u8] =
     b"@ @d hlp1(#)==p(#);end\n@d hlp2(#)==p(#);hlp1\n@d help2==begin hlp2\n@p help2(a)(b)";
-// A string that fills a line of its own.
-const LONG_STRING: &[u8] =
-    b"{1:}\n'bbbbbbbbbbbbbbbbbbbbbbbbbbbbbbbbbbbbbbbbbbbbbbbbbbbbbbbbbbbbbbbbbbbbbb'\n{:1}\n";
-
-// A web, the lines that a sink gets of it, and what is answered. `%` stands for ten letters.
+// A web, the lines that a sink gets of it, and what is answered. `%` stands for ten letters in both.
 #[derive(Clone, Copy)]
 struct Row {
     web: &'static [u8],
@@ -88,14 +84,22 @@ fn webs_give_their_lines(rt: HostRuntime) -> Result<(), Fail> {
             lines: b"{1:}{2:}x;{:2}{2:}x;{:2}{:1}\n", answer: Ok(1) },
         Row { web: b"@ @p @<Initialize@>@<Ini...@>", lines: b"", answer: refused(SECTION_NOT_PRESENT, 1) },
         Row { web: b"@ @d ab==cd\n@p ab(ab)", lines: b"{1:}cd(cd){:1}\n", answer: Ok(1) },
-        Row { web: b"@ @p '%%%%%%%'", lines: LONG_STRING, answer: Ok(3) },
+        Row { web: b"@ @p '%%%%%%%'", lines: b"{1:}\n'%%%%%%%'\n{:1}\n", answer: Ok(3) },
         Row { web: b"@ @p '%%%%%%%b'", lines: b"", answer: refused(STRING_TOO_LONG, 1) },
+        Row { web: b"@ @p x:=1; %%%%% %%", lines: b"{1:}x:=1;\n%%%%% %%\n{:1}\n", answer: Ok(3) },
+        Row { web: b"@ @p x:=1; %%%%% %%bb", lines: b"{1:}x:=1;%%%%%\n%%bb{:1}\n", answer: Ok(2) },
         Row { web: b"@ @p %%%%%@&%%bbb", lines: b"", answer: refused(LINE_NOT_CUT, 1) },
         Row { web: b"@ @d mm=-3\n@d nn=mm+@'17+@\"F+\"a\"\n@p x*mm;x-mm;x:=nn",
             lines: b"{1:}x*(-3);x+3;x:=124{:1}\n", answer: Ok(1) },
         Row { web: b"@ @p @{@<X y@>@}\n@ @<X y@>=b;", lines: b"{1:}{[2:]b;[:2]}{:1}\n", answer: Ok(1) },
         Row { web: b"@ @p 1 mm\n@ @d mm==2", lines: b"{1:}12{:1}\n", answer: Ok(1) },
         Row { web: b"@ @d mm=2\n@p 1 mm", lines: b"", answer: refused(NUMBERS_WITHOUT_SIGN, 1) },
+        Row { web: b"@ @p 1+2 div 3", lines: b"{1:}1+2 div 3{:1}\n", answer: Ok(1) },
+        Row { web: b"@ @p 1+2 Div 3", lines: b"{1:}1+2 Div 3{:1}\n", answer: Ok(1) },
+        Row { web: b"@ @p 1+2 DIV 3", lines: b"{1:}1+2 DIV 3{:1}\n", answer: Ok(1) },
+        Row { web: b"@ @p 1+2 mod 3", lines: b"{1:}1+2 mod 3{:1}\n", answer: Ok(1) },
+        Row { web: b"@ @p 1+2 mOd 3", lines: b"{1:}1+2 mOd 3{:1}\n", answer: Ok(1) },
+        Row { web: b"@ @p 1+2 MOD 3", lines: b"{1:}1+2 MOD 3{:1}\n", answer: Ok(1) },
         Row { web: b"@ @p x:=007", lines: b"{1:}x:=7{:1}\n", answer: Ok(1) },
         Row { web: b"@ @d big==2147483647\n@p aa@\\x:=big+1;",
             lines: b"{1:}aa\n", answer: refused(CONSTANT_TOO_BIG, 2) },
@@ -106,6 +110,56 @@ fn webs_give_their_lines(rt: HostRuntime) -> Result<(), Fail> {
     ];
     for (index, row) in rows.iter().enumerate() {
         let text = written_out(rt.alloc(), row.web)?;
+        let lines = written_out(rt.alloc(), row.lines)?;
+        let web = scan_text(rt.alloc(), text.bytes())?;
+        let mut sink = MemSink::new(rt.alloc(), ROOM, &[])?;
+        let answer = expand_to(&web, &mut sink);
+        assert_eq!(rt; (index, answer), (index, row.answer));
+        assert_eq!(rt; (index, sink.bytes()), (index, lines.bytes()));
+    }
+    Ok(())
+}
+
+// A chain of macros: the text of the first, how many uses of the one before each other is replaced by, and the number
+// of the one that the web uses. Then the lines, and what is answered.
+#[derive(Clone, Copy)]
+struct Chain {
+    first: &'static [u8],
+    uses: u32,
+    used: i64,
+    lines: &'static [u8],
+    answer: Result<u32, EmitErr>,
+}
+
+// The web of a chain.
+fn web_of_chain(alloc: Global, chain: &Chain) -> Result<Text, OutOfMemory> {
+    let mut text = text_of(alloc, b"@ @d c0==")?;
+    text.push_all(chain.first)?;
+    for number in 0..chain.used {
+        text.push_all(b"\n@d c")?;
+        text.push_number(number + 1)?;
+        text.push_all(b"==")?;
+        for _ in 0..chain.uses {
+            text.push_all(b"c")?;
+            text.push_number(number)?;
+            text.push_all(b" ")?;
+        }
+    }
+    text.push_all(b"\n@p c")?;
+    text.push_number(chain.used)?;
+    Ok(text)
+}
+
+#[test]
+fn chains_reach_the_limits(rt: HostRuntime) -> Result<(), Fail> {
+    #[rattlefmt::skip]
+    let rows = [
+        Chain { first: b"x", uses: 1, used: 198, lines: b"{1:}x{:1}\n", answer: Ok(1) },
+        Chain { first: b"x", uses: 1, used: 199, lines: b"", answer: refused(TOO_MANY_LEVELS, 1) },
+        Chain { first: b"", uses: 2, used: 30, lines: b"", answer: refused(TOO_MANY_STEPS, 1) },
+    ];
+    for (index, row) in rows.iter().enumerate() {
+        let text = web_of_chain(rt.alloc(), row)?;
         let web = scan_text(rt.alloc(), text.bytes())?;
         let mut sink = MemSink::new(rt.alloc(), ROOM, &[])?;
         let answer = expand_to(&web, &mut sink);

@@ -2,7 +2,7 @@
 use Rattle.std.proofs.Common.{◌≡◌, ℕ, ◌==◌, ◌+◌, ◌-◌, ◌*◌, nat_lt, ◌||◌, Bool, true, false, cond, List, [], ◌∷◌, ◌++◌}
 use Rattle.std.proofs.Common.{reverse, length, ◌≤◌}
 use Rattle.std.proofs.Common.{refl, sym, ap, ◌∙◌, inl, inr, pos, subst, ◌<◌, arith}
-use Rattle.std.specs.Prelude.{Option, Some, None, Result, Ok, Err}
+use Rattle.std.specs.Prelude.{Option, Some, None, is_some, Result, Ok, Err}
 use Rattle.std.proofs.lemmas.Bool.Decides.{eqb_tells}
 use Rattle.std.proofs.lemmas.Bool.{ne_eqb}
 use Rattle.std.proofs.lemmas.List.{reverse-append, length-reverse}
@@ -31,7 +31,7 @@ use Rattle.tangle_out.specs.inner.Stands.{Holds, last_unit}
 use Rattle.tangle_out.specs.inner.Table.{CanTake, and_map, keeping, after_constant, kept_after, kept_after_number}
 use Rattle.tangle_out.specs.inner.Table.{pieces_at, pieces_at_number, joined_at}
 use Rattle.tangle_out.specs.inner.Table.{joined_at_number, is_at_point, with_digit, fault_of_held, pieces_of_held}
-use Rattle.tangle_out.specs.inner.Table.{nothing_kept}
+use Rattle.tangle_out.specs.inner.Table.{nothing_kept, joined_after}
 use Rattle.tangle_out.proofs.UnitsLemmas.{AgreesAt, after_unit, after_end, Holds-start}
 
 -- an answer that is an Ok, or an Err
@@ -237,6 +237,26 @@ adds items item state next pieces s e h = (
 pub shows : (items : List Expanded) (item : Expanded) (state : FolderState) (code : ℕ)
     → Stands state items → added_by_item (reverse items) item ≡ Err code → Shows items item code
 shows items item state code s e = rw (with_item items item, s.no_fault, e) refl
+
+-- an item that is no digit, where no number comes before it: its unit gives these pieces
+pub plain_ok : (items : List Expanded) (item : Expanded) (number : Option ℕ) (kept next : Kept) (joined : Bool)
+    (unit : FoldingUnit) (pieces : List Piece)
+    → NotDigit item → Stands (record { number = number; kept = kept; joined = joined }) items
+    → is_some number ≡ false → unit ≡ unit_of item → kept_after kept unit ≡ Ok next → pieces_at kept unit ≡ pieces
+    → ((after_join : Bool) → joined_at kept unit after_join ≡ joined_after pieces after_join)
+    → Adds items item (glued_first joined pieces)
+    × Stands (record { number = number; kept = next; joined = joined_after pieces joined }) (items ++ item ∷ [])
+plain_ok items item (Some value) kept next joined unit pieces n s none unit_is e pieces_is joined_is = absurd cc
+plain_ok items item None kept next joined unit pieces n s none unit_is e pieces_is joined_is =
+    let state : FolderState = record { number = None; kept = kept; joined = joined } in
+    let after = item_ok (reverse items) item state kept next n s.holds refl
+    (ap (λ u. kept_after kept u) (sym unit_is) ∙ e) in
+    let there : pieces_at kept (unit_of item) ≡ pieces = ap (λ u. pieces_at kept u) (sym unit_is) ∙ pieces_is in
+    let glued : joined_at kept (unit_of item) joined ≡ joined_after pieces joined =
+    ap (λ u. joined_at kept u joined) (sym unit_is) ∙ joined_is joined in
+    adds items item state (record { number = None; kept = next; joined = joined_after pieces joined })
+    (glued_first joined pieces) s (after.0 ∙ ap (λ ps. Ok (glued_first joined ps)) there)
+    (subst (λ j. HoldsItems (record { number = None; kept = next; joined = j }) (item ∷ reverse items)) glued after.1)
 
 -- ---- no item, and the end
 

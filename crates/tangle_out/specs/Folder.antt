@@ -7,7 +7,9 @@ use Rattle.tangle_out.specs.declared.folding.Kept.{Kept}
 use Rattle.tangle_out.specs.declared.packing.TheConstants.{WIDTH}
 use Rattle.tangle_out.specs.Metacomments.{HasRoom}
 use Rattle.tangle_out.specs.Packer.{longest_text}
-use Rattle.tangle_out.specs.Pieces.{Piece}
+use Rattle.tangle_out.specs.declared.folder.Step.{Step}
+use Rattle.tangle_out.specs.declared.folder.Step.TheVariants as step
+use Rattle.tangle_out.specs.Pieces.{Piece, piece_of}
 use Rattle.tangle_out.specs.Units.{digits_before, units_of}
 use Rattle.tangle_out.specs.Folding.{folded, folded_whole}
 use Rattle.tangle_out.specs.inner.Stands.{Holds}
@@ -56,3 +58,9 @@ ShowsAtEnd items code = folded_whole items ≡ record { pieces = (folded items).
 -- the piece has no more bytes than a piece of its kind may have
 pub record IsShort (piece : Piece) : Type 0 where
   pub short : length piece.text ≤ longest_text WIDTH piece.kind
+
+-- the pieces that a step adds, if it took the item
+abbrev pub pieces_by : Step → Option (List Piece)
+pieces_by step.Nothing = Some []
+pieces_by (step.Gives piece) = Some (piece_of piece ∷ [])
+pieces_by step.Left = None

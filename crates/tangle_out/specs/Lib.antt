@@ -3,6 +3,7 @@ pub use Rattle.macro_expand.specs.Items
 pub mod Folder
 pub mod Folding
 pub mod FoldingRows
+pub mod FoldingTableRows
 pub mod Metacomments
 pub mod Packer
 pub mod Packing

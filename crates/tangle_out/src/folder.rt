@@ -1,14 +1,14 @@
 //! The folder of constants.
-ghost use Rattle.std.specs.Prelude.{◌≡◌, ◌++◌, [], ◌∷◌, List, map, All, IfOk, IfErr, OnErr};
-ghost use Rattle.macro_expand.specs.Items.{Expanded, item_of};
+ghost use Rattle.std.specs.Prelude.{◌≡◌, ◌++◌, [], ◌∷◌, List, map, All, IfOk, IfErr, OnErr, IfSome, IfNone};
+ghost use Rattle.macro_expand.specs.Items.{Expanded, digit, item_of};
 ghost use Rattle.tangle_out.specs.Pieces.{piece_of};
-ghost use Rattle.macro_expand.specs.Foldable.{IsFoldable};
+ghost use Rattle.macro_expand.specs.Foldable.{IsFoldable, IsDigit};
 ghost use Rattle.tangle_out.specs.Folder.{Stands, open_metacomments, HasRoomFor, IsShort};
-ghost use Rattle.tangle_out.specs.Folder.{Adds, Shows, AddsAtEnd, ShowsAtEnd};
+ghost use Rattle.tangle_out.specs.Folder.{Adds, Shows, AddsAtEnd, ShowsAtEnd, pieces_by};
 
 use crate::folding::{Kept, check, fault_of_held};
 use crate::pieces::OutPiece;
-use crate::putting::{Follower, Given, put_held};
+use crate::putting::{Follower, Given, glued, put_held};
 use crate::units::unit_of;
 use arrayvec::ArrayVec;
 use macro_expand::Item;
@@ -17,6 +17,17 @@ use wb_base::faults::METACOMMENT_NOT_ENDED;
 
 #[cfg(test)]
 mod tests;
+
+/// What a folder made of an item in a step. This project's own.
+#[derive(Drop)]
+pub enum Step<'w> {
+    /// The item was taken, and adds no piece.
+    Nothing,
+    /// The item was taken, and adds this piece.
+    Gives(OutPiece<'w>),
+    /// The item was left for `push`: it may add several pieces, or show a fault.
+    Left,
+}
 
 /// Folds constants: takes the items of an expansion one at a time and answers the pieces of the output, in which signed
 /// constants next to each other are added. It keeps no history: one partial number and what is held of one run.
@@ -90,6 +101,53 @@ impl<'w> Folder<'w> {
         self.joined = given.joined;
         self.number = None;
         Ok(given.pieces)
+    }
+
+    /// Takes the next item where it plainly adds one piece or none, as most items do, and else leaves the folder as it
+    /// was. The conditions are those of `push`, which takes each item, at more cost.
+    pub fn step(&mut self, item: Item<'w>) -> Step<'w>
+        requires item { IsFoldable (item_of item) }
+        requires room { HasRoomFor self.old (item_of item) }
+        ensures taken { IfSome (pieces_by result) (λ pieces. (items : List Expanded) → Stands self.old items
+            → Adds items (item_of item.entry) pieces × Stands self.new (items ++ item_of item.entry ∷ [])) }
+        ensures left { IfNone (pieces_by result) (self.new ≡ self.old) }
+        ensures short { IfSome (pieces_by result) (λ pieces. All IsShort pieces) }
+    {
+        if let Item::Digit(byte) = item {
+            return self.step_digit(byte);
+        }
+        if self.number.is_some() {
+            return Step::Left;
+        }
+        let Some((kept, piece)) = self.kept.after_plain(unit_of(item)) else {
+            return Step::Left;
+        };
+        self.kept = kept;
+        match piece {
+            Some(piece) => {
+                let piece = glued(self.joined, piece);
+                self.joined = false;
+                Step::Gives(piece)
+            }
+            None => Step::Nothing,
+        }
+    }
+
+    // The same for a digit.
+    fn step_digit(&mut self, byte: u8) -> Step<'w>
+        requires { IsDigit byte }
+        ensures taken { IfSome (pieces_by result) (λ pieces. (items : List Expanded) → Stands self.old items
+            → Adds items (digit byte) pieces × Stands self.new (items ++ digit byte ∷ [])) }
+        ensures left { IfNone (pieces_by result) (self.new ≡ self.old) }
+        ensures short { IfSome (pieces_by result) (λ pieces. All IsShort pieces) }
+    {
+        match self.kept.with_digit(self.number, byte) {
+            Ok(number) => {
+                self.number = Some(number);
+                Step::Nothing
+            }
+            Err(_) => Step::Left,
+        }
     }
 
     /// Answers the pieces that the end adds. After an Ok the folder is as a new one.

@@ -1,18 +1,19 @@
 //! The folding of constants.
-ghost use Rattle.std.specs.Prelude.{◌≡◌, ◌+◌, ◌≤◌, ◌<◌, ◌++◌, map, length, IfOk, OnOk, IfErr, Ok, Some, None};
+ghost use Rattle.std.specs.Prelude.{◌≡◌, ◌+◌, ◌≤◌, ◌<◌, ◌++◌, map, length, All, Bool};
+ghost use Rattle.std.specs.Prelude.{IfOk, OnOk, IfErr, IfSome, Ok, Some, None, true};
 ghost use Rattle.macro_expand.specs.Items.{item_of};
 ghost use Rattle.tangle_out.specs.Pieces.{piece_of};
 ghost use Rattle.tangle_out.specs.Runs.{sign_times, signed_value};
 ghost use Rattle.tangle_out.specs.Folding.{glued_first, fault_of_item};
 ghost use Rattle.tangle_out.specs.Folder.{IsShort};
-ghost use Rattle.tangle_out.specs.inner.CodePieces.{AllShort};
+ghost use Rattle.tangle_out.specs.inner.CodePieces.{AllShort, pieces_in};
 ghost use Rattle.macro_expand.specs.Foldable.{IsConstant, IsDigit, IsFoldable};
 ghost use Rattle.tangle_out.specs.Metacomments.{HasRoom};
 ghost use Rattle.tangle_out.specs.inner.Table.{IsSmall, CanTake, sum_of, after_sign, after_constant};
 ghost use Rattle.tangle_out.specs.inner.Table.{fault_of_held, last_of, depth_after, kept_after, pieces_at, joined_at};
 ghost use Rattle.tangle_out.specs.inner.Table.{continues, piece_here, keeping, nothing_kept};
 ghost use Rattle.tangle_out.specs.inner.Table.{IsSmallNumber, kept_after_number, pieces_at_number, joined_at_number};
-ghost use Rattle.tangle_out.specs.inner.Table.{with_digit};
+ghost use Rattle.tangle_out.specs.inner.Table.{with_digit, is_free, joined_after};
 ghost use Rattle.tangle_out.specs.Units.{constant, product, joining, other};
 ghost use Rattle.tangle_out.specs.declared.folding.Last.TheVariants.{Else};
 ghost use Rattle.tangle_out.specs.inner.CodeUnits.{unit_seen};
@@ -160,6 +161,17 @@ pub(crate) fn fault_of_held(held: Held) -> Option<u16>
     }
 }
 
+// Whether there is no run.
+fn is_free(held: Held) -> bool
+    ensures { result ≡ is_free held }
+{
+    match held {
+        Held::Nothing | Held::Factor => true,
+        Held::Signs(_) | Held::Sum(_, _) | Held::SumAndSigns(_, _, _) | Held::SumAndTerm(_, _, _) =>
+            false,
+    }
+}
+
 // What an item is to the next one.
 fn last_of(item: Item<'_>) -> Last
     ensures { result ≡ last_of (item_of item.entry) }
@@ -274,6 +286,51 @@ impl Kept {
             return Err(CONSTANT_TOO_BIG);
         }
         Ok(value as u32)
+    }
+
+    // What is kept after a unit that ends no run and shows no fault, and its piece, if it gives one. None where the
+    // unit may be another.
+    pub(crate) fn after_plain<'w>(self, unit: Unit<'w>) -> Option<(Kept, Option<OutPiece<'w>>)>
+        requires small { IsSmall self.held }
+        requires unit { CanTake self (unit_seen unit) }
+        ensures value { IfSome result (λ after. kept_after self (unit_seen unit.entry) ≡ Ok after.0) }
+        ensures small { IfSome result (λ after. IsSmall after.0.held) }
+        ensures pieces { IfSome result (λ after. pieces_at self (unit_seen unit.entry) ≡ pieces_in after.1) }
+        ensures joined { IfSome result (λ after. (joined : Bool) → joined_at self (unit_seen unit.entry) joined
+            ≡ joined_after (pieces_in after.1) joined) }
+        ensures short { IfSome result (λ after. All IsShort (pieces_in after.1)) }
+    {
+        match unit {
+            Unit::Sign(sign) => Some((self.holding(after_sign(self.held, sign).ok()?), None)),
+            Unit::Product(item) if is_free(self.held) => {
+                Some((self.holding(Held::Factor), Some(self.piece_here(item))))
+            }
+            Unit::Other(item) if is_free(self.held) => self.after_plain_item(item),
+            _ => None,
+        }
+    }
+
+    // The same after another item, where there is no run.
+    fn after_plain_item<'w>(self, item: Item<'w>) -> Option<(Kept, Option<OutPiece<'w>>)>
+        requires free { is_free self.held ≡ true }
+        requires item { HasRoom self.depth (item_of item) }
+        requires word { IsFoldable (item_of item) }
+        ensures value { IfSome result (λ after. kept_after self (other (item_of item.entry)) ≡ Ok after.0) }
+        ensures small { IfSome result (λ after. IsSmall after.0.held) }
+        ensures pieces { IfSome result (λ after. pieces_at self (other (item_of item.entry)) ≡ pieces_in after.1) }
+        ensures joined { IfSome result (λ after. (joined : Bool) → joined_at self (other (item_of item.entry)) joined
+            ≡ joined_after (pieces_in after.1) joined) }
+        ensures short { IfSome result (λ after. All IsShort (pieces_in after.1)) }
+    {
+        if fault_of_item(self.depth, item).is_some() {
+            return None;
+        }
+        let kept = Kept {
+            held: Held::Nothing,
+            last: last_of(item),
+            depth: depth_after(self.depth, item),
+        };
+        Some((kept, Some(self.piece_here(item))))
     }
 
     // What is kept after a product sign or word.

@@ -10,6 +10,6 @@ mod texts;
 mod units;
 mod waiting;
 
-pub use folder::Folder;
+pub use folder::{Folder, Step};
 pub use packing::{Packer, WIDTH};
 pub use pieces::{OutErr, OutPiece, PieceKind, PieceText};

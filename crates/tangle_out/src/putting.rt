@@ -58,12 +58,21 @@ impl<'w> Given<'w> {
         ensures joined { self.new.joined ≡ joined_after (piece_of piece.entry ∷ []) self.old.joined }
         ensures short { AllShort self.old.pieces → AllShort self.new.pieces }
     {
-        self.pieces.push(OutPiece {
-            glued: self.joined || piece.glued,
-            text: piece.text,
-            kind: piece.kind,
-        });
+        self.pieces.push(glued(self.joined, piece));
         self.joined = false;
+    }
+}
+
+// A piece, glued if it is the first after a join.
+pub(crate) fn glued<'w>(after_join: bool, piece: OutPiece<'w>) -> OutPiece<'w>
+    requires short { IsShort (piece_of piece) }
+    ensures value { piece_of result ∷ [] ≡ glued_first after_join (piece_of piece.entry ∷ []) }
+    ensures short { IsShort (piece_of result) }
+{
+    OutPiece {
+        glued: after_join || piece.glued,
+        text: piece.text,
+        kind: piece.kind,
     }
 }
 

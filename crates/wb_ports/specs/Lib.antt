@@ -10,7 +10,10 @@ pub mod PortState
 pub mod InMemory
 pub mod MemSink
 pub mod MemShelf
+pub mod MemPort
 pub mod DirShelf
+pub mod FilePort
 pub mod StdSink
+pub mod StdPort
 pub mod QuietSink
 pub mod inner

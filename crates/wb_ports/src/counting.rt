@@ -1,8 +1,10 @@
 //! How the objects of the outside count their failed calls, and those in memory know which calls are to fail.
 ghost use Rattle.std.specs.Prelude.{◌≡◌, ◌+◌, ◌-◌, ◌≤◌, ◌++◌, take, length, vec_len, vec_capacity, nat_le, IfOk};
-ghost use Rattle.wb_ports.specs.Counts.{Rose, next_count};
-ghost use Rattle.wb_ports.specs.InMemory.{is_next_listed, with_call, with_failure};
+ghost use Rattle.std.specs.Prelude.{is_err};
+ghost use Rattle.wb_ports.specs.Counts.{CountsFailure, Rose, next_count};
+ghost use Rattle.wb_ports.specs.InMemory.{is_next_listed, with_call, with_failure, after_call};
 
+use crate::Failed;
 use std::alloc::Global;
 use std::marker::Model;
 use wb_base::OutOfMemory;
@@ -51,6 +53,19 @@ impl CallCounter {
     {
         raise(&mut self.count);
         self.fails.contains(&self.count)
+    }
+
+    // Counts a call, which fails where it is one of those that are to fail.
+    pub(crate) fn pass(&mut self) -> Result<(), Failed>
+        ensures fails { is_err result ≡ is_next_listed self.old }
+        ensures counted { self.new ≡ after_call (is_err result) self.old }
+        ensures cause { CountsFailure (is_err result) self.old.faults self.new.faults }
+    {
+        if self.count_call() {
+            self.count_failure();
+            return Err(Failed);
+        }
+        Ok(())
     }
 
     // Counts that the call failed.

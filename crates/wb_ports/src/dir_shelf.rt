@@ -7,10 +7,11 @@ ghost use Rattle.wb_ports.specs.DirShelf.{DirState};
 ghost use Rattle.wb_ports.specs.inner.Moving.{Moves};
 
 use crate::counting::raise;
-use crate::writing::{flush, write_whole};
+use crate::gathering::Gatherer;
+use crate::writing::flush;
 use crate::{Failed, LOAD_LIMIT, PortErr, Shelf};
 use std::alloc::Global;
-use std::io::{BufWriter, ErrorKind, Read};
+use std::io::{ErrorKind, Read, Write};
 use std::marker::Model;
 use std::rt::Files;
 use std::{fs, io};
@@ -19,6 +20,13 @@ use wb_base::Text;
 // How many bytes are read at once, and gathered before they are written.
 const CHUNK: usize = 65_536;
 
+// A file that is written, and what is gathered for it.
+#[derive(Drop)]
+struct OpenFile<F> {
+    file: F,
+    gatherer: Gatherer,
+}
+
 /// The files of the current folder, by names that are paths. What is written is gathered, and handed on when it is
 /// much and when the file is closed, so a failure may show late. It tells no content, since no contract knows what a
 /// real file holds. To contracts it is a `DirState`. This project's own.
@@ -26,20 +34,21 @@ const CHUNK: usize = 65_536;
 pub struct DirShelf<R: Files> {
     alloc: Global,
     files: R,
-    open_file: Option<BufWriter<R::File>>,
+    open_file: Option<OpenFile<R::File>>,
     faults: u64,
 }
 
 impl<R: Files> Model for DirShelf<R> {
     ghost use Rattle.std.specs.Prelude.{is_some, option_and_then};
-    ghost use Rattle.std.specs.Io.Buffered.{writer_contents};
+    ghost use Rattle.std.specs.Io.KnownBytes.{append_known};
     ghost use Rattle.wb_ports.specs.DirShelf.{DirState};
 
     ghost Value = { DirState };
 
     ghost view = { λ shelf. record {
       is_open = is_some shelf.open_file;
-      written = option_and_then (writer_contents R.File.contents) shelf.open_file;
+      written = option_and_then (λ opened. append_known (R.File.contents opened.file) opened.gatherer.kept)
+          shelf.open_file;
       faults = shelf.faults;
     } };
 }
@@ -79,19 +88,13 @@ impl<R: Files> Shelf for DirShelf<R> {
         loaded
     }
 
-    /// Makes the file empty and opens it. It fails where the name is no path in UTF-8, where the file cannot be made,
-    /// and where there is no memory to gather what is written; then no file is open.
+    /// Makes the file empty and opens it. The memory to gather what is written is taken before the file is made. It
+    /// fails where the name is no path in UTF-8, and where the file cannot be made; then no file is open.
     fn create(&mut self, name: &[u8]) -> Result<(), PortErr> {
-        match create_file(self.alloc, &self.files, name) {
-            Ok(file) => {
-                self.open_file = Some(file);
-                Ok(())
-            }
-            Err(Failed) => {
-                raise(&mut self.faults);
-                Err(PortErr::Failed)
-            }
-        }
+        let created = create_file(self.alloc, &self.files, name);
+        count_failure(&mut self.faults, &created);
+        self.open_file = Some(created?);
+        Ok(())
     }
 
     /// Appends the piece to the open file. It fails where the file does, or takes nothing of what is handed on.
@@ -104,7 +107,7 @@ impl<R: Files> Shelf for DirShelf<R> {
         ensures cause { CountsFailure (is_err result) self.old.faults self.new.faults }
     {
         let written = match &mut self.open_file {
-            Some(file) => write_whole(file, piece),
+            Some(open) => open.gatherer.write(piece, &mut open.file),
             None => Err(Failed),
         };
         if written.is_err() {
@@ -116,7 +119,7 @@ impl<R: Files> Shelf for DirShelf<R> {
     /// Closes the open file. It fails where what was written cannot be handed on; the file is closed then too.
     fn close(&mut self) -> Result<(), Failed> {
         let flushed = match &mut self.open_file {
-            Some(file) => flush(file),
+            Some(open) => hand_on_all(open),
             None => Err(Failed),
         };
         self.open_file = None;
@@ -198,15 +201,19 @@ fn create_file<R: Files>(
     alloc: Global,
     files: &R,
     name: &[u8],
-) -> Result<BufWriter<R::File>, Failed> {
+) -> Result<OpenFile<R::File>, PortErr> {
     let Ok(path) = str::from_utf8(name) else {
-        return Err(Failed);
+        return Err(PortErr::Failed);
     };
-    let Ok(file) = fs::create(files, path) else {
-        return Err(Failed);
-    };
-    match BufWriter::with_capacity(alloc, CHUNK, file) {
-        Ok(file) => Ok(file),
-        Err(_) => Err(Failed),
+    let gatherer = Gatherer::new(alloc, CHUNK)?;
+    match fs::create(files, path) {
+        Ok(file) => Ok(OpenFile { file, gatherer }),
+        Err(_) => Err(PortErr::Failed),
     }
+}
+
+// Hands on what was gathered for the file.
+fn hand_on_all<F: Write>(open: &mut OpenFile<F>) -> Result<(), Failed> {
+    open.gatherer.hand_on(&mut open.file)?;
+    flush(&mut open.file)
 }

@@ -5,12 +5,18 @@
 mod answers;
 mod counting;
 mod dir_shelf;
+mod file_port;
+mod gathering;
+mod mem_port;
 mod mem_shelf;
 mod mem_sink;
 mod port;
 mod quiet_sink;
+mod reading;
+mod shared_writer;
 mod shelf;
 mod sink;
+mod std_port;
 mod std_sink;
 #[cfg(test)]
 mod tests;
@@ -18,10 +24,15 @@ mod writing;
 
 pub use answers::{Failed, PortErr};
 pub use dir_shelf::DirShelf;
+pub use file_port::FilePort;
+pub use mem_port::MemPort;
 pub use mem_shelf::MemShelf;
 pub use mem_sink::MemSink;
-pub use port::{Mode, Port};
+pub use port::{Mode, PORT_LIMIT, PORT_NAME_LIMIT, Port};
 pub use quiet_sink::QuietSink;
+pub use reading::BLOCK;
+pub use shared_writer::SharedWriter;
 pub use shelf::{FailedCall, LOAD_LIMIT, Shelf, ShelfCall};
 pub use sink::Sink;
+pub use std_port::StdPort;
 pub use std_sink::StdSink;

@@ -8,6 +8,12 @@ ghost use Rattle.wb_ports.specs.declared.port.Mode.{Mode};
 
 use crate::Failed;
 
+/// The most bytes that a port gives after a `rewind`: the Pascal's greatest integer. This project's own.
+pub const PORT_LIMIT: usize = 2_147_483_647;
+
+/// The most bytes that the Pascal name of a port has. This project's own.
+pub const PORT_NAME_LIMIT: usize = 255;
+
 /// What a port is in use for.
 #[derive(Clone, Copy, Debug, PartialEq, Eq)]
 pub enum Mode {
@@ -35,7 +41,7 @@ pub trait Port: Drop {
 
     /// Tells the port its Pascal name, of at most 255 bytes. After `Failed` nothing has changed.
     fn bind(&mut self, name: &[u8]) -> Result<(), Failed>
-        requires { length name.now ≤ 255 }
+        requires { length name.now ≤ PORT_NAME_LIMIT }
 
         ensures ok { OnOk result (WhereTold (Becomes (named_port name.now)) (told self.old) (told self.new)) }
         ensures failed { OnErr result (WhereTold Stays (told self.old) (told self.new)) }
@@ -49,7 +55,7 @@ pub trait Port: Drop {
         ensures failed { OnErr result (WhereTold Stays (told self.old) (told self.new)) }
         ensures reading { OnOk result (mode self.new ≡ Mode.Reading) }
         ensures same_mode { OnErr result (mode self.new ≡ mode self.old) }
-        ensures left { OnOk result (left self.new ≤ 2147483647) }
+        ensures left { OnOk result (left self.new ≤ PORT_LIMIT) }
         ensures same_left { OnErr result (left self.new ≡ left self.old) }
         ensures cause { CountsFailure (is_err result) (failures self.old) (failures self.new) };
 

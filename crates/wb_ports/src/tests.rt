@@ -1,5 +1,6 @@
 //! What no clause says: that each call succeeds with ample memory, and what real files and streams do.
 ghost use Rattle.std.specs.Prelude.{◌≡◌, false};
+ghost use Rattle.wb_ports.specs.declared.port.Mode.{Mode};
 
 use crate::*;
 use std::test::Fail;
@@ -117,5 +118,132 @@ fn a_stream_is_a_sink(rt: HostRuntime) -> Result<(), Fail> {
     assert_eq!(rt; StdSink::new(io::writer(&rt)).write(b"a line\n"), Ok(()));
     let mut closed = StdSink::new(fs::open(&rt, ".")?);
     assert_eq!(rt; closed.write(b"a line\n"), Err(Failed));
+    Ok(())
+}
+
+#[test]
+fn a_port_in_memory_fails_where_it_is_told_to(rt: HostRuntime) -> Result<(), Fail> {
+    let mut port = MemPort::new(rt.alloc(), b"ab", 1, &[3, 10])?;
+    if let Ok(()) = port.rewind() {
+        assert_eq!(rt; port.take(), Ok(Some(b'a')));
+        assert_eq!(rt; port.take(), Err(Failed));
+        assert_eq!(rt; port.take(), Ok(Some(b'b')));
+        assert_eq!(rt; port.take(), Ok(None));
+    }
+    if let Ok(()) = port.begin() {
+        assert_eq!(rt; port.put(b'c'), Ok(()));
+        assert_eq!(rt; port.put(b'd'), Err(Failed));
+    }
+    assert_eq!(rt; port.bind(b"f"), Ok(()));
+    assert_eq!(rt; port.finish(), Err(Failed));
+    if let Ok(()) = port.rewind() {
+        assert_eq!(rt; port.take(), Ok(Some(b'c')));
+        assert_eq!(rt; port.take(), Ok(None));
+    }
+    Ok(())
+}
+
+// Puts so many of each of two bytes, one after the other.
+fn put_pairs<P: Port>(port: &mut P, count: usize) -> Result<(), Failed>
+    requires { P.mode port.old ≡ Mode.Writing }
+{
+    for _ in 0..count {
+        port.put(b'a')?;
+        port.put(b'\n')?;
+    }
+    Ok(())
+}
+
+// Whether the port gives so many pairs of these, and then is at its end.
+fn gives_pairs<P: Port>(port: &mut P, count: usize) -> Result<bool, Failed>
+    requires { P.mode port.old ≡ Mode.Reading }
+{
+    for _ in 0..count {
+        if port.take()? != Some(b'a') || port.take()? != Some(b'\n') {
+            return Ok(false);
+        }
+    }
+    Ok(port.take()?.is_none())
+}
+
+// Whether the port gives the bytes back that were put.
+fn gives_back<P: Port>(port: &mut P) -> Result<bool, Failed> {
+    port.bind(b"f")?;
+    port.begin()?;
+    put_pairs(port, 10_000)?;
+    port.finish()?;
+    port.rewind()?;
+    gives_pairs(port, 10_000)
+}
+
+#[test]
+fn a_port_gives_back_what_was_put(rt: HostRuntime) -> Result<(), Fail> {
+    let alloc = rt.alloc();
+    assert_eq!(rt;
+        gives_back(&mut MemPort::new(alloc, b"", 20_000, &[])?),
+        Ok(true)
+    );
+    assert_eq!(rt;
+        gives_back(&mut FilePort::new(alloc, rt, b"t.out")?),
+        Ok(true)
+    );
+    fs::remove_file(&rt, "t.out")?;
+    Ok(())
+}
+
+#[test]
+fn a_port_over_a_file_that_is_not_there_fails(rt: HostRuntime) -> Result<(), Fail> {
+    let mut port = FilePort::new(rt.alloc(), rt, b"none/t.in")?;
+    assert_eq!(rt; port.rewind(), Err(Failed));
+    assert_eq!(rt; port.begin(), Err(Failed));
+    assert_eq!(rt; port.finish(), Ok(()));
+    Ok(())
+}
+
+#[test]
+fn a_question_is_written_before_its_answer_is_read(rt: HostRuntime) -> Result<(), Fail> {
+    let alloc = rt.alloc();
+    fs::write(&rt, "t.in", "y")?;
+    let shared = SharedWriter::new(alloc, fs::create(&rt, "t.out")?)?;
+    let mut output = StdPort::new(alloc, fs::open(&rt, "t.in")?, shared.share()?)?;
+    let mut input = StdPort::new(alloc, fs::open(&rt, "t.in")?, shared)?;
+    if let Ok(()) = output.begin() {
+        assert_eq!(rt; output.put(b'?'), Ok(()));
+    }
+    assert_eq!(rt; fs::read(&rt, "t.out")?.as_slice(), b"".as_slice());
+    if let Ok(()) = input.rewind() {
+        assert_eq!(rt; input.take(), Ok(Some(b'y')));
+        assert_eq!(rt; fs::read(&rt, "t.out")?.as_slice(), b"?".as_slice());
+        assert_eq!(rt; input.take(), Ok(None));
+    }
+    assert_eq!(rt; input.rewind(), Err(Failed));
+    fs::remove_file(&rt, "t.in")?;
+    fs::remove_file(&rt, "t.out")?;
+    Ok(())
+}
+
+#[test]
+fn a_port_over_the_standard_streams_writes(rt: HostRuntime) -> Result<(), Fail> {
+    let output = SharedWriter::new(rt.alloc(), rt.stdout())?;
+    let mut port = StdPort::new(rt.alloc(), rt.stdin(), output)?;
+    if let Ok(()) = port.begin() {
+        assert_eq!(rt; port.put(b'\n'), Ok(()));
+    }
+    assert_eq!(rt; port.finish(), Ok(()));
+    Ok(())
+}
+
+#[test]
+fn ports_of_each_kind_stand_in_one_list(rt: HostRuntime) -> Result<(), Fail> {
+    let alloc = rt.alloc();
+    let mut ports: Vec<Box<dyn Port>> = Vec::new(alloc);
+    ports.push(Box::new(alloc, MemPort::new(alloc, b"", 1, &[])?)?)?;
+    ports.push(Box::new(alloc, FilePort::new(alloc, rt, b"t.list")?)?)?;
+    ports.push(Box::new(alloc, StdPort::new(alloc, rt.stdin(), rt.stdout())?)?)?;
+    for port in &mut ports {
+        assert_eq!(rt; port.begin(), Ok(()));
+        assert_eq!(rt; port.finish(), Ok(()));
+    }
+    fs::remove_file(&rt, "t.list")?;
     Ok(())
 }

@@ -21,7 +21,7 @@ pub(crate) fn write_whole<W: Write>(writer: &mut W, piece: &[u8]) -> Result<(), 
 }
 
 // Writes some of a piece that is not empty, at least a byte, and tells how many.
-fn write_some<W: Write>(writer: &mut W, piece: &[u8]) -> Result<usize, Failed>
+pub(crate) fn write_some<W: Write>(writer: &mut W, piece: &[u8]) -> Result<usize, Failed>
     ensures some { IfOk result (λ n. 0 < n) }
     ensures within { IfOk result (λ n. n ≤ length piece.now) }
     ensures ok { IfOk result (λ n. Appends (W.contents writer.old) (W.contents writer.new) (take n piece.now)) }

@@ -1,13 +1,15 @@
 -- The next code of a text, a step at a time.
-use Rattle.std.proofs.Common.{◌≡◌, ℕ, List, [], ◌∷◌, drop, Option, Some, refl, sym}
+use Rattle.std.proofs.Common.{◌≡◌, ℕ, ◌==◌, false, List, [], ◌∷◌, drop, Option, Some, refl, sym}
 use Rattle.std.proofs.Common.{ap, ◌∙◌}
+use Rattle.std.specs.List.{position_or_len}
 use Rattle.wb_base.specs.declared.places.Place.{Place}
 use Rattle.web_lex.specs.declared.codes.Code.{Code}
 use Rattle.web_lex.specs.declared.codes.Code.TheVariants as code
 use Rattle.web_lex.specs.Codes.{code_of}
-use Rattle.web_lex.specs.Raw.{PlacedByte, place_of}
+use Rattle.web_lex.specs.Raw.{PlacedByte, place_of, bytes_of_line}
 use Rattle.web_lex.specs.SkipAhead.{Found, next_code, found_or}
-use Rattle.web_lex.specs.inner.Ahead.{first_byte}
+use Rattle.web_lex.specs.inner.Ahead.{first_byte, is_at_sign}
+use Rattle.web_lex.proofs.TextLemmas.{passed-plain}
 
 -- a code that is not passed is found
 pub found_or-found : (value : Code) (place : Place) (rest : List PlacedByte) (further : Option Found)
@@ -49,3 +51,14 @@ next_code-found text after rest end place byte next value first sign after_is se
     (next_code (drop 1 (drop 1 text))) not_ignored not_at
     ∙ ap (λ p. Some (record { code = value; place = p; rest = drop 1 (drop 1 text) })) (sym place_is)
     ∙ ap (λ r. Some (record { code = value; place = place; rest = r })) (sym rest_there)
+
+-- a byte that is no at sign is passed
+next_code-byte : (byte : PlacedByte) (rest : List PlacedByte) → (byte.byte == 64) ≡ false
+    → next_code (byte ∷ rest) ≡ next_code rest
+next_code-byte byte [] other = refl
+next_code-byte byte (next ∷ rest) other = rw other refl
+
+-- and so are all bytes of a line before its first at sign
+pub next_code-plain : (text : List PlacedByte)
+    → next_code (drop (position_or_len is_at_sign (bytes_of_line text)) text) ≡ next_code text
+next_code-plain = passed-plain is_at_sign next_code next_code-byte

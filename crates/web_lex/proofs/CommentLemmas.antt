@@ -1,17 +1,19 @@
 -- What stands after a comment, a byte at a time.
-use Rattle.std.proofs.Common.{◌≡◌, ◌≢◌, ℕ, ◌+◌, ◌-◌, ◌==◌, Bool, true, false, List, [], ◌∷◌, drop}
+use Rattle.std.proofs.Common.{◌≡◌, ◌≢◌, ℕ, ◌+◌, ◌-◌, ◌==◌, ◌||◌, Bool, true, false, List, [], ◌∷◌, drop}
 use Rattle.std.proofs.Common.{Some, Ok, Err, refl, arith}
 use Rattle.std.proofs.lemmas.Bool.Decides.{nat_tests}
+use Rattle.std.specs.List.{position_or_len}
 use Rattle.wb_base.specs.declared.places.Place.{Place}
 use Rattle.wb_base.specs.declared.faults.TheConstants.{COMMENT_NOT_ENDED}
 use Rattle.wb_base.specs.FaultAt.{fault_at}
 use Rattle.web_lex.specs.declared.codes.Code.{Code}
 use Rattle.web_lex.specs.declared.codes.Code.TheVariants as code
 use Rattle.web_lex.specs.Codes.{code_of}
-use Rattle.web_lex.specs.Raw.{PlacedByte, place_of}
+use Rattle.web_lex.specs.Raw.{PlacedByte, place_of, bytes_of_line}
 use Rattle.web_lex.specs.Gaps.{RestOrFault, after_comment, unless_section}
-use Rattle.web_lex.specs.inner.Ahead.{first_byte}
+use Rattle.web_lex.specs.inner.Ahead.{first_byte, matters_in_comment}
 use Rattle.web_lex.specs.inner.Steps.{begins_section, is_section}
+use Rattle.web_lex.proofs.TextLemmas.{passed-plain}
 
 no_section : (value : Code) (place : Place) (after : RestOrFault) → is_section value ≡ false
     → unless_section value place after ≡ after
@@ -114,3 +116,22 @@ after_comment-byte end depth byte (head ∷ []) first no_sign no_slash no_open n
 after_comment-byte end depth byte (head ∷ (next ∷ rest)) first no_sign no_slash no_open no_close =
     let is : head.byte ≡ byte = cc in
     rw (is, no_sign, no_slash, no_open, no_close) refl
+
+-- and so are all bytes of a line before the first that may matter
+after_comment-other : (end : Place) (depth : ℕ) (byte : PlacedByte) (rest : List PlacedByte)
+    → matters_in_comment byte.byte ≡ false → after_comment end depth (byte ∷ rest) ≡ after_comment end depth rest
+after_comment-other end depth byte rest other =
+    let no_sign = or_false _ _ other in
+    let no_slash = or_false _ _ no_sign.1 in
+    let no_brace = or_false _ _ no_slash.1 in
+    after_comment-byte end depth byte.byte (byte ∷ rest) refl no_sign.0 no_slash.0 no_brace.0 no_brace.1
+  where
+    or_false : (a b : Bool) → (a || b) ≡ false → (a ≡ false) × (b ≡ false)
+    or_false true b is = absurd cc
+    or_false false b is = (refl, is)
+
+pub after_comment-plain : (end : Place) (depth : ℕ) (text : List PlacedByte)
+    → after_comment end depth (drop (position_or_len matters_in_comment (bytes_of_line text)) text)
+    ≡ after_comment end depth text
+after_comment-plain end depth =
+    passed-plain matters_in_comment (after_comment end depth) (after_comment-other end depth)

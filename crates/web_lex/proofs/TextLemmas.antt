@@ -1,5 +1,5 @@
 -- The text that stands before a cursor, a line at a time.
-use Rattle.std.proofs.Common.{◌≡◌, ◌≢◌, ℕ, zero, suc, ◌+◌, ◌<◌, ◌≤◌, false, List, [], ◌∷◌, ◌++◌, map}
+use Rattle.std.proofs.Common.{◌≡◌, ◌≢◌, ℕ, zero, suc, ◌+◌, ◌<◌, ◌≤◌, Bool, true, false, List, [], ◌∷◌, ◌++◌, map}
 use Rattle.std.proofs.Common.{length, take, drop, Some, unwrap_or, refl, sym, ap, ◌∙◌, arith}
 use Rattle.std.specs.Prelude.{slice_get}
 use Rattle.std.specs.List.{position_or_len}
@@ -79,6 +79,41 @@ bytes_of_line-raw place (byte ∷ bytes) later =
     let more : 1 + n ≡ suc n = omega arith in
     ap (λ k. map (λ (placed : PlacedByte). placed.byte) (take k (raw_line place (byte ∷ bytes) ++ later))) more
     ∙ ap (λ bs. byte ∷ bs) (bytes_of_line-raw place bytes later)
+
+-- the bytes before the end of a line, one at a time
+pub bytes_of_line-end : (byte : PlacedByte) (rest : List PlacedByte) → byte.ends_line ≡ true
+    → bytes_of_line (byte ∷ rest) ≡ []
+bytes_of_line-end byte rest ends = rw ends refl
+
+pub bytes_of_line-more : (byte : PlacedByte) (rest : List PlacedByte) → byte.ends_line ≡ false
+    → bytes_of_line (byte ∷ rest) ≡ byte.byte ∷ bytes_of_line rest
+bytes_of_line-more byte rest stays =
+    let n : ℕ = position_or_len (λ (placed : PlacedByte). placed.ends_line) rest in
+    let more : 1 + n ≡ suc n = omega arith in
+    rw (stays, more) refl
+
+-- where bytes that do not pass a test make no difference at the front of a text, those of a line before the first that
+-- passes make none
+pub passed-plain : {A : Type 0} (test : ℕ → Bool) (made : List PlacedByte → A)
+    → ((byte : PlacedByte) (rest : List PlacedByte) → test byte.byte ≡ false → made (byte ∷ rest) ≡ made rest)
+    → (text : List PlacedByte) → made (drop (position_or_len test (bytes_of_line text)) text) ≡ made text
+passed-plain test made same [] = refl
+passed-plain {A} test made same (byte ∷ rest) = by_end byte.ends_line refl (passed-plain test made same rest)
+  where
+    n : ℕ
+    n = position_or_len test (bytes_of_line rest)
+
+    by_test : (b : Bool) → test byte.byte ≡ b → made (drop n rest) ≡ made rest
+        → made (drop (position_or_len test (byte.byte ∷ bytes_of_line rest)) (byte ∷ rest)) ≡ made (byte ∷ rest)
+    by_test true passes others = rw passes refl
+    by_test false other others =
+        let more : 1 + n ≡ suc n = omega arith in
+        rw (other, more) (others ∙ sym (same byte rest other))
+
+    by_end : (b : Bool) → byte.ends_line ≡ b → made (drop n rest) ≡ made rest
+        → made (drop (position_or_len test (bytes_of_line (byte ∷ rest))) (byte ∷ rest)) ≡ made (byte ∷ rest)
+    by_end true ends others = rw (bytes_of_line-end byte rest ends) refl
+    by_end false stays others = rw (bytes_of_line-more byte rest stays) (by_test (test byte.byte) refl others)
 
 -- passing bytes of a line
 pub drop-raw : (size : ℕ) (place : Place) (bytes : List ℕ) (later : List PlacedByte) → size ≤ length bytes

@@ -1,8 +1,9 @@
 //! Passing what vanishes between the tokens of Pascal text.
 ghost use Rattle.std.specs.Prelude.{◌≡◌, ◌<◌, ◌≤◌, ◌↔◌, IsTrue, Some, Ok, None, true, false, IfOk, IfSome, OnOk};
-ghost use Rattle.std.specs.Prelude.{length};
+ghost use Rattle.std.specs.Prelude.{length, ℕ};
+ghost use Rattle.std.specs.List.{position_or_len};
 ghost use Rattle.web_lex.specs.Gaps.{after_comment, after_control_text, gap_at, after_gaps};
-ghost use Rattle.web_lex.specs.inner.Ahead.{first_byte};
+ghost use Rattle.web_lex.specs.inner.Ahead.{first_byte, matters_in_comment};
 ghost use Rattle.web_lex.specs.inner.Steps.{rest_of, begins_section, comment_after, gap_before};
 
 use crate::codes::{Code, control_code};
@@ -98,8 +99,33 @@ fn skip_comment(cursor: &mut Cursor<'_>) -> Result<(), Fault>
     Err(Fault::at(COMMENT_NOT_ENDED, cursor.end()))
 }
 
-// Passes this byte of a comment with what it hides, where so many comments are open around it. Answers how many are
-// open after it, or none at the end of the comment.
+// Passes the bytes of the line before the first that may matter in a comment, or before its end.
+fn pass_plain(cursor: &mut Cursor<'_>)
+    ensures comment { (depth : ℕ) → after_comment cursor.new.end depth cursor.new.rest
+        ≡ after_comment cursor.old.end depth cursor.old.rest }
+    ensures kept { cursor.old.passed ≤ cursor.new.passed }
+    ensures not_longer { length cursor.new.rest ≤ length cursor.old.rest }
+    ensures end { cursor.new.end ≡ cursor.old.end }
+{
+    if let Some(_) = cursor.first() {
+        cursor.pass(length_to_mark(cursor.line()));
+    }
+}
+
+// How many bytes stand before the first that may matter in a comment, or before the end of the bytes.
+fn length_to_mark(bytes: &[u8]) -> usize
+    ensures value { result ≡ position_or_len matters_in_comment bytes.now }
+    ensures within { result ≤ length bytes.now }
+{
+    bytes
+        .iter()
+        .position(|byte| matches!(*byte, b'@' | b'\\' | b'{' | b'}'))
+        .unwrap_or(bytes.len())
+}
+
+// Passes this byte of a comment with what it hides, where so many comments are open around it, and behind a plain byte
+// the others of the line that are as plain. Answers how many comments are open after it, or none at the end of the
+// comment.
 fn pass_in_comment(cursor: &mut Cursor<'_>, byte: u8, depth: u128) -> Result<Option<u128>, Fault>
     requires first { first_byte cursor.old.rest ≡ Some byte }
     requires depth { depth < cursor.old.passed }
@@ -125,7 +151,10 @@ fn pass_in_comment(cursor: &mut Cursor<'_>, byte: u8, depth: u128) -> Result<Opt
         b'{' => Ok(Some(depth + 1)),
         b'}' if depth == 0 => Ok(None),
         b'}' => Ok(Some(depth - 1)),
-        _ => Ok(Some(depth)),
+        _ => {
+            pass_plain(cursor);
+            Ok(Some(depth))
+        }
     }
 }
 

@@ -61,6 +61,12 @@ abbrev pub fault_of_held : Held → Option ℕ
 fault_of_held (SumAndTerm lead value term) = if is_too_big (value +ℤ term) then Some CONSTANT_TOO_BIG else None
 fault_of_held held = None
 
+-- whether there is no run
+abbrev pub is_free : Held → Bool
+is_free Nothing = true
+is_free Factor = true
+is_free held = false
+
 -- whether what follows a run is a product sign or word or a join
 abbrev pub goes_with : Follower → Bool
 goes_with Product = true

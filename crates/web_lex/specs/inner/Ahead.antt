@@ -1,5 +1,5 @@
 -- What a cursor over the lines of a web has before it. No public contract cites this.
-use Rattle.std.specs.Prelude.{ℕ, List, [], ◌∷◌, ◌++◌, Option, Some, None}
+use Rattle.std.specs.Prelude.{ℕ, ◌==◌, ◌||◌, Bool, List, [], ◌∷◌, ◌++◌, Option, Some, None}
 use Rattle.wb_base.specs.declared.places.Place.{Place}
 use Rattle.change_merge.specs.Lines.{Line}
 use Rattle.web_lex.specs.Raw.{PlacedByte, raw_line, raw_text}
@@ -19,3 +19,11 @@ text_from (line ∷ lines) bytes = raw_line line.place bytes ++ raw_text lines
 abbrev pub first_byte : List PlacedByte → Option ℕ
 first_byte [] = None
 first_byte (byte ∷ rest) = Some byte.byte
+
+-- whether a byte is an at sign
+abbrev pub is_at_sign : ℕ → Bool
+is_at_sign byte = byte == 64
+
+-- whether a byte may matter in a comment: an at sign, a backslash or a brace
+abbrev pub matters_in_comment : ℕ → Bool
+matters_in_comment byte = byte == 64 || (byte == 92 || (byte == 123 || byte == 125))

@@ -1,15 +1,14 @@
-use Rattle.std.proofs.Common.{◌≡◌, ℕ, ◌+◌, ◌<◌, [], ◌∷◌, ◌++◌, List, map, All, length, Option, Some, None, Ok, Err, arith}
-use Rattle.std.proofs.Common.{subst, sym, ap, ◌∙◌}
+use Rattle.std.proofs.Common.{◌≡◌, ℕ, ◌∷◌, List, map, All, Option, Err, arith}
+use Rattle.std.proofs.Common.{subst, ◌∙◌}
 use Rattle.std.proofs.lemmas.List.Elements.{All-head}
 use Rattle.std.proofs.lemmas.Result.{err_from_is_err_and}
 use Rattle.wb_base.specs.declared.faults.TheConstants.{LINE_NOT_CUT}
-use Rattle.wb_ports.specs.Held.{GainsPrefix}
 use Rattle.tangle_out.specs.Folder.{IsShort}
 use Rattle.tangle_out.specs.declared.pieces.OutPiece.{OutPiece}
 use Rattle.tangle_out.specs.declared.pieces.OutErr.TheVariants.{Fault, Failed}
 use Rattle.tangle_out.specs.Pieces.{Piece, piece_of}
 use Rattle.tangle_out.specs.Packer.{PackerState}
-use Rattle.tangle_core.specs.inner.Emitting.{Sent, Breaks, CanCount, Packs}
+use Rattle.tangle_core.specs.inner.Emitting.{Packs}
 use Rattle.tangle_core.proofs.LinedLemmas.{finished-few}
 use Rattle.tangle_core.proofs.EmittingLemmas.{Packs-piece, Packs-fault, Packs-failed, Packs-end, if_fault}
 use Rattle.tangle_core.proofs.output.pack.Goals as goal

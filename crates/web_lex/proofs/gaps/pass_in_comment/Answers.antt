@@ -46,7 +46,7 @@ pub returns-in_default-clause-comment : goal.returns-in_default-clause-comment
 returns-in_default-clause-comment c =
     let cursor = c.args.cursor.now in
     let byte = c.args.byte in
-    rw (c.pass.ensures.rest, c.pass.ensures.end)
+    rw (c.pass_plain.ensures.comment c.args.depth, c.pass.ensures.rest, c.pass.ensures.end)
     (after_comment-byte cursor.end c.args.depth byte cursor.rest c.requires.first
     (ne_eqb byte 64 (λ e. omega (arith, e))) (ne_eqb byte 92 (λ e. omega (arith, e)))
     (ne_eqb byte 123 (λ e. omega (arith, e))) (ne_eqb byte 125 (λ e. omega (arith, e))))

@@ -1,0 +1,5 @@
+pub mod OnwardLemmas
+pub mod GoesLemmas
+pub mod BoundLemmas
+pub mod DepthLemmas
+pub mod TrialLemmas

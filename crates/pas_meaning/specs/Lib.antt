@@ -1,0 +1,10 @@
+pub mod Answers
+pub mod Files
+pub mod Outcome
+pub mod FileSteps
+pub mod Store
+pub mod Arithmetic
+pub mod Run
+pub mod Trial
+pub mod Laws
+pub mod TrialRows
