@@ -119,17 +119,14 @@ impl<'w> Folder<'w> {
         if self.number.is_some() {
             return Step::Left;
         }
-        let Some((kept, piece)) = self.kept.after_plain(unit_of(item)) else {
-            return Step::Left;
-        };
-        self.kept = kept;
-        match piece {
-            Some(piece) => {
+        match self.kept.take_plain(unit_of(item)) {
+            Some(Some(piece)) => {
                 let piece = glued(self.joined, piece);
                 self.joined = false;
                 Step::Gives(piece)
             }
-            None => Step::Nothing,
+            Some(None) => Step::Nothing,
+            None => Step::Left,
         }
     }
 

@@ -1,6 +1,6 @@
 //! The folding of constants.
 ghost use Rattle.std.specs.Prelude.{◌≡◌, ◌+◌, ◌≤◌, ◌<◌, ◌++◌, map, length, All, Bool};
-ghost use Rattle.std.specs.Prelude.{IfOk, OnOk, IfErr, IfSome, Ok, Some, None, true};
+ghost use Rattle.std.specs.Prelude.{IfOk, OnOk, IfErr, IfSome, IfNone, Ok, Some, None, true};
 ghost use Rattle.macro_expand.specs.Items.{item_of};
 ghost use Rattle.tangle_out.specs.Pieces.{piece_of};
 ghost use Rattle.tangle_out.specs.Runs.{sign_times, signed_value};
@@ -114,6 +114,7 @@ fn sum_of(value: i64, term: i64) -> Result<i64, u16>
 }
 
 // What is held after a sign.
+#[inline(always)]
 fn after_sign(held: Held, sign: Sign) -> Result<Held, u16>
     requires { IsSmall held }
     ensures value { result ≡ after_sign held sign }
@@ -162,6 +163,7 @@ pub(crate) fn fault_of_held(held: Held) -> Option<u16>
 }
 
 // Whether there is no run.
+#[inline(always)]
 fn is_free(held: Held) -> bool
     ensures { result ≡ is_free held }
 {
@@ -173,6 +175,7 @@ fn is_free(held: Held) -> bool
 }
 
 // What an item is to the next one.
+#[inline(always)]
 fn last_of(item: Item<'_>) -> Last
     ensures { result ≡ last_of (item_of item.entry) }
 {
@@ -184,6 +187,7 @@ fn last_of(item: Item<'_>) -> Last
 }
 
 // How many metacomments are open after an item.
+#[inline(always)]
 fn depth_after(depth: u32, item: Item<'_>) -> u32
     requires { HasRoom depth (item_of item) }
     ensures { result ≡ depth_after depth (item_of item.entry) }
@@ -230,6 +234,7 @@ impl Kept {
     }
 
     // What is kept after a number.
+    #[inline(always)]
     pub(crate) fn after_number(self, value: i64, given: &mut Given<'_>) -> Result<Kept, u16>
         requires small { IsSmall self.held }
         requires value { IsConstant value }
@@ -249,6 +254,7 @@ impl Kept {
     }
 
     // What is kept after the number that digits were, if there is one.
+    #[inline(always)]
     pub(crate) fn after_digits(
         self,
         number: Option<u32>,
@@ -288,49 +294,61 @@ impl Kept {
         Ok(value as u32)
     }
 
-    // What is kept after a unit that ends no run and shows no fault, and its piece, if it gives one. None where the
-    // unit may be another.
-    pub(crate) fn after_plain<'w>(self, unit: Unit<'w>) -> Option<(Kept, Option<OutPiece<'w>>)>
-        requires small { IsSmall self.held }
-        requires unit { CanTake self (unit_seen unit) }
-        ensures value { IfSome result (λ after. kept_after self (unit_seen unit.entry) ≡ Ok after.0) }
-        ensures small { IfSome result (λ after. IsSmall after.0.held) }
-        ensures pieces { IfSome result (λ after. pieces_at self (unit_seen unit.entry) ≡ pieces_in after.1) }
-        ensures joined { IfSome result (λ after. (joined : Bool) → joined_at self (unit_seen unit.entry) joined
-            ≡ joined_after (pieces_in after.1) joined) }
-        ensures short { IfSome result (λ after. All IsShort (pieces_in after.1)) }
+    // Takes a unit that ends no run and shows no fault, and answers its piece, if it gives one. None where the unit may be
+    // another; what is kept is then as it was.
+    #[inline(always)]
+    pub(crate) fn take_plain<'w>(&mut self, unit: Unit<'w>) -> Option<Option<OutPiece<'w>>>
+        requires small { IsSmall self.old.held }
+        requires unit { CanTake self.old (unit_seen unit) }
+        ensures value { IfSome result (λ _. kept_after self.old (unit_seen unit.entry) ≡ Ok self.new) }
+        ensures left { IfNone result (self.new ≡ self.old) }
+        ensures small { IsSmall self.new.held }
+        ensures pieces { IfSome result (λ piece. pieces_at self.old (unit_seen unit.entry) ≡ pieces_in piece) }
+        ensures joined { IfSome result (λ piece. (joined : Bool) → joined_at self.old (unit_seen unit.entry) joined
+            ≡ joined_after (pieces_in piece) joined) }
+        ensures short { IfSome result (λ piece. All IsShort (pieces_in piece)) }
     {
         match unit {
-            Unit::Sign(sign) => Some((self.holding(after_sign(self.held, sign).ok()?), None)),
-            Unit::Product(item) if is_free(self.held) => {
-                Some((self.holding(Held::Factor), Some(self.piece_here(item))))
+            Unit::Sign(sign) => {
+                let held = after_sign(self.held, sign).ok()?;
+                *self = self.holding(held);
+                Some(None)
             }
-            Unit::Other(item) if is_free(self.held) => self.after_plain_item(item),
+            Unit::Product(item) if is_free(self.held) => {
+                let piece = self.piece_here(item);
+                *self = self.holding(Held::Factor);
+                Some(Some(piece))
+            }
+            Unit::Other(item) if is_free(self.held) => self.take_plain_item(item),
             _ => None,
         }
     }
 
-    // The same after another item, where there is no run.
-    fn after_plain_item<'w>(self, item: Item<'w>) -> Option<(Kept, Option<OutPiece<'w>>)>
-        requires free { is_free self.held ≡ true }
-        requires item { HasRoom self.depth (item_of item) }
+    // The same for another item, where there is no run.
+    #[inline(always)]
+    fn take_plain_item<'w>(&mut self, item: Item<'w>) -> Option<Option<OutPiece<'w>>>
+        requires small { IsSmall self.old.held }
+        requires free { is_free self.old.held ≡ true }
+        requires item { HasRoom self.old.depth (item_of item) }
         requires word { IsFoldable (item_of item) }
-        ensures value { IfSome result (λ after. kept_after self (other (item_of item.entry)) ≡ Ok after.0) }
-        ensures small { IfSome result (λ after. IsSmall after.0.held) }
-        ensures pieces { IfSome result (λ after. pieces_at self (other (item_of item.entry)) ≡ pieces_in after.1) }
-        ensures joined { IfSome result (λ after. (joined : Bool) → joined_at self (other (item_of item.entry)) joined
-            ≡ joined_after (pieces_in after.1) joined) }
-        ensures short { IfSome result (λ after. All IsShort (pieces_in after.1)) }
+        ensures value { IfSome result (λ _. kept_after self.old (other (item_of item.entry)) ≡ Ok self.new) }
+        ensures left { IfNone result (self.new ≡ self.old) }
+        ensures small { IsSmall self.new.held }
+        ensures pieces { IfSome result (λ piece. pieces_at self.old (other (item_of item.entry)) ≡ pieces_in piece) }
+        ensures joined { IfSome result (λ piece. (joined : Bool) → joined_at self.old (other (item_of item.entry)) joined
+            ≡ joined_after (pieces_in piece) joined) }
+        ensures short { IfSome result (λ piece. All IsShort (pieces_in piece)) }
     {
         if fault_of_item(self.depth, item).is_some() {
             return None;
         }
-        let kept = Kept {
+        let piece = self.piece_here(item);
+        *self = Kept {
             held: Held::Nothing,
             last: last_of(item),
             depth: depth_after(self.depth, item),
         };
-        Some((kept, Some(self.piece_here(item))))
+        Some(Some(piece))
     }
 
     // What is kept after a product sign or word.
@@ -391,6 +409,7 @@ impl Kept {
     }
 
     // The same with this held, after a unit that matters in no other way.
+    #[inline(always)]
     fn holding(self, held: Held) -> Kept
         ensures { result ≡ keeping self Else held }
     {
@@ -402,6 +421,7 @@ impl Kept {
     }
 
     // The piece of an item.
+    #[inline(always)]
     fn piece_here(self, item: Item<'_>) -> OutPiece<'_>
         requires word { IsFoldable (item_of item) }
         requires fine { fault_of_item self.depth (item_of item) ≡ None }

@@ -71,6 +71,7 @@ impl Packer {
     ///
     /// The fault is `LINE_NOT_CUT`: the piece passes the width of a line that can be cut nowhere. `Failed` is that of
     /// the sink, which may have got a prefix of the line. After both the packer is as it was.
+    #[inline(always)]
     pub fn push<K: Sink>(&mut self, piece: OutPiece<'_>, sink: &mut K) -> Result<(), OutErr>
         requires short { length (piece_of piece).text ≤ longest_text WIDTH (piece_of piece).kind }
         requires countable { self.old.finished < u32.MAX }
@@ -130,6 +131,7 @@ impl Packer {
     }
 
     // Packs a piece more.
+    #[inline(always)]
     fn advance<K: Sink>(&mut self, piece: &OutPiece<'_>, sink: &mut K) -> Result<(), OutErr>
         requires short { length (piece_of piece.now).text ≤ longest_text WIDTH (piece_of piece.now).kind }
         requires countable { self.old.finished < u32.MAX }
@@ -216,6 +218,7 @@ impl Packer {
 }
 
 // Whether a piece of this kind is a forced line.
+#[inline(always)]
 fn is_forced_line(kind: PieceKind) -> bool
     ensures { result ≡ is_forced_line kind }
 {

@@ -64,6 +64,7 @@ impl<'w> Given<'w> {
 }
 
 // A piece, glued if it is the first after a join.
+#[inline(always)]
 pub(crate) fn glued<'w>(after_join: bool, piece: OutPiece<'w>) -> OutPiece<'w>
     requires short { IsShort (piece_of piece) }
     ensures value { piece_of result ∷ [] ≡ glued_first after_join (piece_of piece.entry ∷ []) }
@@ -77,6 +78,7 @@ pub(crate) fn glued<'w>(after_join: bool, piece: OutPiece<'w>) -> OutPiece<'w>
 }
 
 // A piece of made bytes.
+#[inline(always)]
 fn short<'w>(kind: PieceKind, text: Short) -> OutPiece<'w>
     requires { length text.items ≤ 16 }
     ensures value { piece_of result ≡ loose kind text.items }
@@ -90,6 +92,7 @@ fn short<'w>(kind: PieceKind, text: Short) -> OutPiece<'w>
 }
 
 // A piece of the web's bytes.
+#[inline(always)]
 fn slice(kind: PieceKind, text: &[u8]) -> OutPiece<'_>
     requires { length text.now ≤ longest_text WIDTH kind }
     ensures value { piece_of result ≡ loose kind text.now }
@@ -134,6 +137,7 @@ pub(crate) fn alone_piece<'w>(value: i64) -> OutPiece<'w>
 }
 
 // The piece of a product sign or word or of another item, inside this many metacomments.
+#[inline(always)]
 pub(crate) fn item_piece(depth: u32, item: Item<'_>) -> OutPiece<'_>
     requires word { IsFoldable (item_of item) }
     requires fine { fault_of_item depth (item_of item) ≡ None }
@@ -159,6 +163,7 @@ pub(crate) fn item_piece(depth: u32, item: Item<'_>) -> OutPiece<'_>
 }
 
 // The fault of another item by itself.
+#[inline(always)]
 pub(crate) fn fault_of_item(depth: u32, item: Item<'_>) -> Option<u16>
     ensures { result ≡ fault_of_item depth (item_of item.entry) }
 {

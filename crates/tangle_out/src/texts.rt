@@ -58,6 +58,7 @@ pub(crate) fn alone_text(value: i64) -> Short
 }
 
 // One byte.
+#[inline(always)]
 pub(crate) fn byte_text(byte: u8) -> Short
     ensures items { result.items ≡ byte ∷ [] }
     ensures len { length result.items ≤ 1 }
@@ -78,6 +79,7 @@ pub(crate) fn sign_byte(sign: Sign) -> u8
 }
 
 // The opening brace inside this many metacomments.
+#[inline(always)]
 pub(crate) fn opening(depth: u32) -> u8
     ensures { result ≡ opening depth }
 {
@@ -85,6 +87,7 @@ pub(crate) fn opening(depth: u32) -> u8
 }
 
 // The closing brace inside this many metacomments.
+#[inline(always)]
 pub(crate) fn closing(depth: u32) -> u8
     ensures { result ≡ closing depth }
 {
@@ -116,6 +119,7 @@ pub(crate) fn end_text(depth: u32, section: u32) -> Short
 }
 
 // The bytes of a sign of two bytes.
+#[inline(always)]
 pub(crate) fn joined_text(sign: Joined) -> &'static [u8]
     ensures items { result.now ≡ joined_text sign }
     ensures len { length result.now ≤ 2 }
@@ -131,6 +135,7 @@ pub(crate) fn joined_text(sign: Joined) -> &'static [u8]
 }
 
 // The kind of a sign or a mark that ends in this byte.
+#[inline(always)]
 pub(crate) fn kind_by_end(byte: u8) -> PieceKind
     ensures { result ≡ kind_by_end byte }
 {

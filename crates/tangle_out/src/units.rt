@@ -19,6 +19,7 @@ pub(crate) enum Unit<'w> {
 }
 
 // The unit that an item is.
+#[inline(always)]
 pub(crate) fn unit_of(item: Item<'_>) -> Unit<'_>
     ensures { unit_seen result ≡ unit_of (item_of item.entry) }
 {

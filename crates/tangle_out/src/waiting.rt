@@ -59,6 +59,7 @@ impl Waiting {
     }
 
     // The length of the text with a piece more.
+    #[inline(always)]
     pub(crate) fn length_with(&self, piece: &OutPiece<'_>) -> usize
         requires { length (text_with self.now (piece_of piece.now)) ≤ CAPACITY }
         ensures { result ≡ length (text_with self.now (piece_of piece.now)) }
@@ -67,6 +68,7 @@ impl Waiting {
     }
 
     // Whether the piece stands a space after the text.
+    #[inline(always)]
     fn spaces(&self, piece: &OutPiece<'_>) -> bool
         ensures { result ≡ is_spaced self.now.before (piece_of piece.now) }
     {
@@ -118,6 +120,7 @@ impl Waiting {
     }
 
     // Adds a piece at the end.
+    #[inline(always)]
     pub(crate) fn add(&mut self, piece: &OutPiece<'_>)
         requires { length (text_with self.old (piece_of piece.now)) ≤ CAPACITY }
         ensures { self.new ≡ with_more self.old (piece_of piece.now) }
@@ -152,6 +155,7 @@ impl Waiting {
 }
 
 // Adds bytes at the end of a buffer.
+#[inline(always)]
 pub(crate) fn append<const N: usize>(buffer: &mut ArrayVec<u8, N>, bytes: &[u8])
     requires { length buffer.old.items + length bytes.now ≤ N }
     ensures { buffer.new.items ≡ buffer.old.items ++ bytes.now }
@@ -160,6 +164,7 @@ pub(crate) fn append<const N: usize>(buffer: &mut ArrayVec<u8, N>, bytes: &[u8])
 }
 
 // The bytes of a piece.
+#[inline(always)]
 fn bytes_of<'p>(text: &'p PieceText<'_>) -> &'p [u8]
     ensures { result.now ≡ bytes_of text.now }
 {
@@ -170,6 +175,7 @@ fn bytes_of<'p>(text: &'p PieceText<'_>) -> &'p [u8]
 }
 
 // Whether a space may stand after a piece of this kind.
+#[inline(always)]
 fn takes_space_after(kind: PieceKind) -> bool
     ensures { result ≡ takes_space_after kind }
 {
@@ -180,6 +186,7 @@ fn takes_space_after(kind: PieceKind) -> bool
 }
 
 // Whether a space may stand before these bytes of a piece of this kind.
+#[inline(always)]
 fn takes_space_before(kind: PieceKind, text: &[u8]) -> bool
     ensures { result ≡ takes_space_before kind text.now }
 {
@@ -191,6 +198,7 @@ fn takes_space_before(kind: PieceKind, text: &[u8]) -> bool
 }
 
 // Whether a text begins with a digit.
+#[inline(always)]
 fn begins_with_digit(text: &[u8]) -> bool
     ensures { result ≡ begins_with_digit text.now }
 {
@@ -201,6 +209,7 @@ fn begins_with_digit(text: &[u8]) -> bool
 }
 
 // Whether a piece of this kind is a sign or a mark that ends in `;` or `}`.
+#[inline(always)]
 fn ends_statement(kind: PieceKind) -> bool
     ensures { result ≡ ends_statement kind }
 {
