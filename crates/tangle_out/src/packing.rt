@@ -155,10 +155,11 @@ impl Packer {
         if is_forced_line(piece.kind) {
             return self.force_line(sink);
         }
-        if self.waiting.length_with(piece) > WIDTH {
+        let spaced = self.waiting.spaces(piece);
+        if self.waiting.length_with(piece, spaced) > WIDTH {
             return self.cut_line(piece, sink);
         }
-        self.waiting.add(piece);
+        self.waiting.add(piece, spaced);
         Ok(())
     }
 
@@ -211,7 +212,7 @@ impl Packer {
         };
         write_line(&self.waiting.text()[..cut], sink)?;
         self.finished += 1;
-        self.waiting.add(piece);
+        self.waiting.add(piece, self.waiting.spaces(piece));
         self.waiting.drop_line(cut);
         Ok(())
     }

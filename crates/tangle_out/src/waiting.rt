@@ -58,18 +58,19 @@ impl Waiting {
         self.text.as_slice()
     }
 
-    // The length of the text with a piece more.
+    // The length of the text with a piece more, which stands a space after the text or directly behind it.
     #[inline(always)]
-    pub(crate) fn length_with(&self, piece: &OutPiece<'_>) -> usize
-        requires { length (text_with self.now (piece_of piece.now)) ≤ CAPACITY }
+    pub(crate) fn length_with(&self, piece: &OutPiece<'_>, spaced: bool) -> usize
+        requires room { length (text_with self.now (piece_of piece.now)) ≤ CAPACITY }
+        requires spaced { spaced ≡ is_spaced self.now.before (piece_of piece.now) }
         ensures { result ≡ length (text_with self.now (piece_of piece.now)) }
     {
-        self.text.len() + usize::from(self.spaces(piece)) + bytes_of(&piece.text).len()
+        self.text.len() + usize::from(spaced) + bytes_of(&piece.text).len()
     }
 
     // Whether the piece stands a space after the text.
     #[inline(always)]
-    fn spaces(&self, piece: &OutPiece<'_>) -> bool
+    pub(crate) fn spaces(&self, piece: &OutPiece<'_>) -> bool
         ensures { result ≡ is_spaced self.now.before (piece_of piece.now) }
     {
         !piece.glued
@@ -105,7 +106,7 @@ impl Waiting {
         ensures { result ≡ may_cut WIDTH 0 (text_with self.now (piece_of piece.now)) cut }
     {
         let dropped = usize::from(self.is_space(piece, cut));
-        cut > 0 && self.length_with(piece) <= WIDTH + cut + dropped
+        cut > 0 && self.length_with(piece, self.spaces(piece)) <= WIDTH + cut + dropped
     }
 
     // Whether the byte at this place is a space in the text with a piece more.
@@ -119,17 +120,17 @@ impl Waiting {
         }
     }
 
-    // Adds a piece at the end.
+    // Adds a piece at the end, a space after the text or directly behind it.
     #[inline(always)]
-    pub(crate) fn add(&mut self, piece: &OutPiece<'_>)
-        requires { length (text_with self.old (piece_of piece.now)) ≤ CAPACITY }
+    pub(crate) fn add(&mut self, piece: &OutPiece<'_>, spaced: bool)
+        requires room { length (text_with self.old (piece_of piece.now)) ≤ CAPACITY }
+        requires spaced { spaced ≡ is_spaced self.old.before (piece_of piece.now) }
         ensures { self.new ≡ with_more self.old (piece_of piece.now) }
     {
-        let spaces = self.spaces(piece);
         if !piece.glued {
             self.break_place = self.text.len();
         }
-        if spaces {
+        if spaced {
             self.text.push(b' ');
         }
         append(&mut self.text, bytes_of(&piece.text));
