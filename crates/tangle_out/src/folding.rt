@@ -294,8 +294,8 @@ impl Kept {
         Ok(value as u32)
     }
 
-    // Takes a unit that ends no run and shows no fault, and answers its piece, if it gives one. None where the unit may be
-    // another; what is kept is then as it was.
+    // Takes a unit that ends no run and shows no fault, and answers its piece, if it gives one. None where the unit may
+    // be another; what is kept is then as it was.
     #[inline(always)]
     pub(crate) fn take_plain<'w>(&mut self, unit: Unit<'w>) -> Option<Option<OutPiece<'w>>>
         requires small { IsSmall self.old.held }
@@ -335,8 +335,8 @@ impl Kept {
         ensures left { IfNone result (self.new ≡ self.old) }
         ensures small { IsSmall self.new.held }
         ensures pieces { IfSome result (λ piece. pieces_at self.old (other (item_of item.entry)) ≡ pieces_in piece) }
-        ensures joined { IfSome result (λ piece. (joined : Bool) → joined_at self.old (other (item_of item.entry)) joined
-            ≡ joined_after (pieces_in piece) joined) }
+        ensures joined { IfSome result (λ piece. (joined : Bool)
+            → joined_at self.old (other (item_of item.entry)) joined ≡ joined_after (pieces_in piece) joined) }
         ensures short { IfSome result (λ piece. All IsShort (pieces_in piece)) }
     {
         if fault_of_item(self.depth, item).is_some() {
