@@ -1,0 +1,2 @@
+pub mod AsMany
+pub mod ExpressionsAsMany
