@@ -2,11 +2,18 @@
 use Rattle.std.proofs.Common.{◌≡◌, refl, sym, ap, ◌∙◌, ℕ, suc, ◌+◌, ◌<◌, arith, Bool, true, false, List, [], ◌∷◌, ◌++◌}
 use Rattle.std.proofs.Common.{length, map, Option, Some, None}
 use Rattle.std.proofs.lemmas.List.{length-append}
-use Rattle.pas_tokens.specs.Cutting.{Wrong}
-use Rattle.pas_syntax.specs.Words.{Word}
+use Rattle.std.specs.Prelude.{not, flat_map}
+use Rattle.wb_base.specs.declared.faults.TheConstants.{DUPLICATE_NAME}
+use Rattle.pas_tokens.specs.declared.kinds.Kind.{Kind}
+use Rattle.pas_tokens.specs.declared.kinds.Kind.TheVariants as k
+use Rattle.pas_tokens.specs.Cutting.{Wrong, wrong}
+use Rattle.pas_syntax.specs.Tree.{Ident, Idents, Behind}
+use Rattle.pas_syntax.specs.Words.{Word, maybe, at, name_at, idents_words}
 use Rattle.pas_types.specs.Marks.{Marks, no_token, shows, quiet, first_of, at_first, last_of, at_last, with_behind}
 use Rattle.pas_types.specs.Marks.{followed, joined, listed, Judged, kept_by, checked_by, checked, faults_if}
-use Rattle.pas_types.specs.Marks.{noted}
+use Rattle.pas_types.specs.Marks.{noted, unless}
+use Rattle.pas_types.specs.Scopes.{each_new, new_names, contains}
+use Rattle.pas_types.specs.TypeForms.{maybe_quiet}
 
 pub record AsMany (words : List Word) (marks : Marks) : Type 0 where
   pub same : length marks.tokens ≡ length words
@@ -35,9 +42,9 @@ pub at_last_many : {words : List Word} (faults : List Wrong) (marks : Marks) →
     → AsMany words (at_last faults marks)
 at_last_many faults marks h = record { same = last_count faults marks.tokens ∙ h.same }
 
-pub then : {words more : List Word} (part next : Marks) → AsMany words part → AsMany more next
+pub and_then : {words more : List Word} (part next : Marks) → AsMany words part → AsMany more next
     → AsMany (words ++ more) (followed part next)
-then {words = words} {more = more} part next h k = record {
+and_then {words = words} {more = more} part next h k = record {
   same = length-append part.tokens (at_first part.behind next).tokens
   ∙ (ap (λ n. n + length (at_first part.behind next).tokens) h.same
   ∙ (ap (λ n. length words + n) (first_count part.behind next.behind next.tokens ∙ k.same)
@@ -99,20 +106,20 @@ noted_many faults part h = at_last_many (faults_if faults part.value) part.marks
 pub around : {words more : List Word} (word : Word) (part next : Marks) → AsMany words part → AsMany more next
     → AsMany (words ++ word ∷ more) (joined (part ∷ quiet ∷ next ∷ []))
 around word part next h k =
-    then part (joined (quiet ∷ next ∷ [])) h (then quiet (joined (next ∷ [])) (one word []) (all next k))
+    and_then part (joined (quiet ∷ next ∷ [])) h (and_then quiet (joined (next ∷ [])) (one word []) (all next k))
 
 pub behind_word : {words : List Word} (word : Word) (part : Marks) → AsMany words part
     → AsMany (word ∷ words) (joined (quiet ∷ part ∷ []))
-behind_word word part h = then quiet (joined (part ∷ [])) (one word []) (all part h)
+behind_word word part h = and_then quiet (joined (part ∷ [])) (one word []) (all part h)
 
 pub before_word : {words : List Word} (word : Word) (part : Marks) → AsMany words part
     → AsMany (words ++ word ∷ []) (joined (part ∷ quiet ∷ []))
-before_word word part h = then part (joined (quiet ∷ [])) h (all quiet (one word []))
+before_word word part h = and_then part (joined (quiet ∷ [])) h (all quiet (one word []))
 
 pub between : {words : List Word} (word last : Word) (part : Marks) → AsMany words part
     → AsMany (word ∷ (words ++ last ∷ [])) (joined (quiet ∷ part ∷ quiet ∷ []))
 between word last part h =
-    then quiet (joined (part ∷ quiet ∷ [])) (one word []) (before_word last part h)
+    and_then quiet (joined (part ∷ quiet ∷ [])) (one word []) (before_word last part h)
 
 -- words in other groups
 pub regrouped : (words more last : List Word) (marks : Marks) → AsMany ((words ++ more) ++ last) marks
@@ -135,3 +142,39 @@ listed_count name opened closed parts h =
     omega (arith, followed_count name (joined (opened ∷ list ∷ closed ∷ [])),
     followed_count opened (joined (list ∷ closed ∷ [])), followed_count list (joined (closed ∷ [])),
     followed_count closed no_token, some_listed_total parts h)
+
+-- a word, or a part, and what stands behind it
+pub next_word : {more : List Word} (word : Word) (faults : List Wrong) (rest : Marks) → AsMany more rest
+    → AsMany (word ∷ more) (followed (shows faults) rest)
+next_word word faults rest h = and_then (shows faults) rest (one word faults) h
+
+pub maybe_many : (n : ℕ) (kind : Kind) (line : Option ℕ) → AsMany (maybe n kind line) (maybe_quiet line)
+maybe_many n kind None = none
+maybe_many n kind (Some line) = one (at n kind line) []
+
+-- the same with nothing behind it
+pub nothing_behind : (words : List Word) (marks : Marks) → AsMany words marks → AsMany (words ++ []) marks
+nothing_behind words marks h = record { same = omega (arith, h.same, length-append words []) }
+
+-- names that are declared
+new_total : (taken : List (List ℕ)) (idents : List Ident)
+    → total (each_new taken idents) ≡ length idents + length idents
+new_total taken [] = refl
+new_total taken (ident ∷ idents) = omega (arith, new_total (taken ++ ident.name ∷ []) idents)
+
+more_idents : (n : ℕ) (more : List (Behind Ident))
+    → length (flat_map (λ behind. at n k.Comma behind.line ∷ (name_at n behind.item ∷ [])) more)
+    ≡ length (map (λ behind. behind.item) more) + length (map (λ behind. behind.item) more)
+more_idents n [] = refl
+more_idents n (behind ∷ more) = omega (arith, more_idents n more)
+
+pub new_names_many : (n : ℕ) (taken : List (List ℕ)) (idents : Idents)
+    → AsMany (idents_words n idents) (new_names taken idents)
+new_names_many n taken idents =
+    let others : List Ident = map (λ behind. behind.item) idents.more in
+    let marks : List Marks = each_new (taken ++ idents.first.name ∷ []) others in
+    let first : Marks = shows (unless (not (contains taken idents.first.name)) (wrong DUPLICATE_NAME)) in
+    record {
+      same = omega (arith, listed_total first marks, new_total (taken ++ idents.first.name ∷ []) others,
+          more_idents n idents.more);
+    }

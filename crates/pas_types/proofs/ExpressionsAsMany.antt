@@ -22,7 +22,7 @@ use Rattle.pas_types.specs.Typed.{Function, FileTest, Place, Value, Variable, Sl
 use Rattle.pas_types.specs.Typed as typed
 use Rattle.pas_types.specs.Scopes.{Scopes, Entity, constant, variable, routine, function, file_test, file_step}
 use Rattle.pas_types.specs.Scopes.{procedure, unclear, type, entity_of, standard_file}
-use Rattle.pas_types.specs.TypeForms.{char_in, undoubled}
+use Rattle.pas_types.specs.TypeForms.{undoubled}
 use Rattle.pas_types.specs.Expressions.{value_of, sum_of, term_of, factor_of, variable_value, place_of, elements_at}
 use Rattle.pas_types.specs.Expressions.{values_of, as_value, as_place, without_arguments, function_alone, test_alone}
 use Rattle.pas_types.specs.Expressions.{heading_of, only, ordinal_only, type_of_place, like, record_only, files_only, array_only}
@@ -31,17 +31,13 @@ use Rattle.pas_types.specs.Expressions.{Given, met, argument_marks, asked_nothin
 use Rattle.pas_types.specs.Expressions.{as_call, bare_argument, call_with, function_call_of}
 use Rattle.pas_types.specs.Expressions.{comparison_of, addition_of, addition_base, product_of, product_base}
 use Rattle.pas_types.specs.Expressions.{element_of, field_of, buffer_of, closed_by, demands_of, function_demand, test_demand}
-use Rattle.pas_types.proofs.AsMany.{AsMany, none, one, then, all, at_first_many, checked_many, noted_many, around, behind_word}
+use Rattle.pas_types.proofs.TypesAsMany.{char_many}
+use Rattle.pas_types.proofs.AsMany.{AsMany, none, one, and_then, all, at_first_many, checked_many, noted_many, around, behind_word}
 use Rattle.pas_types.proofs.AsMany.{before_word, between, count}
 use Rattle.pas_types.proofs.AsMany.{total, total_append, listed_total, followed_count, checked_count, first_count}
 use Rattle.pas_types.proofs.AsMany.{regrouped, listed_count}
 
--- a string, and names
-pub char_many : (word : Word) (bytes : List ℕ) → AsMany (word ∷ []) (char_in bytes).marks
-char_many word [] = one word _
-char_many word (byte ∷ []) = one word _
-char_many word (byte ∷ (next ∷ bytes)) = one word _
-
+-- names
 pub place_named_many : (word : Word) (entity : Option Entity) → AsMany (word ∷ []) (as_place entity).marks
 place_named_many word None = one word _
 place_named_many word (Some (constant base value)) = one word _

@@ -1,2 +1,3 @@
 pub mod AsMany
+pub mod TypesAsMany
 pub mod ExpressionsAsMany
