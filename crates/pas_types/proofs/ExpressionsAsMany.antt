@@ -155,7 +155,7 @@ not_called_count faults arguments h =
     omega (arith, is, listed_count (shows faults) quiet quiet parts some)
 
 -- a call: its name, two parentheses, and the arguments with commas between them
-abbrev IsCall : List Given → Marks → Type 0
+abbrev pub IsCall : List Given → Marks → Type 0
 IsCall arguments marks = count marks ≡ suc (suc (total (map plain_marks arguments)))
 
 call_with_count : (scopes : Scopes) (number : ℕ) (heading : Heading) (arguments : List Given) (result : Option PasType)

@@ -1,3 +1,5 @@
 pub mod AsMany
 pub mod TypesAsMany
 pub mod ExpressionsAsMany
+pub mod CallsAsMany
+pub mod StatementsAsMany
