@@ -1,5 +1,5 @@
 -- Each part of a program shows as many lists of faults as it has words, so the faults of a token stand beside its word.
-use Rattle.std.proofs.Common.{◌≡◌, refl, sym, ap, ◌∙◌, ℕ, suc, ◌+◌, ◌<◌, arith, Bool, true, false, List, [], ◌∷◌, ◌++◌}
+use Rattle.std.proofs.Common.{◌≡◌, refl, sym, ap, ◌∙◌, ℕ, suc, ◌+◌, ◌<◌, arith, List, [], ◌∷◌, ◌++◌}
 use Rattle.std.proofs.Common.{length, map, Option, Some, None}
 use Rattle.std.proofs.lemmas.List.{length-append}
 use Rattle.std.specs.Prelude.{not, flat_map}
@@ -9,7 +9,7 @@ use Rattle.pas_tokens.specs.declared.kinds.Kind.TheVariants as k
 use Rattle.pas_tokens.specs.Cutting.{Wrong, wrong}
 use Rattle.pas_syntax.specs.Tree.{Ident, Idents, Behind}
 use Rattle.pas_syntax.specs.Words.{Word, maybe, at, name_at, idents_words}
-use Rattle.pas_types.specs.Marks.{Marks, no_token, shows, quiet, first_of, at_first, last_of, at_last, with_behind}
+use Rattle.pas_types.specs.Marks.{Marks, no_token, shows, quiet, first_of, at_first, last_of, at_last}
 use Rattle.pas_types.specs.Marks.{followed, joined, listed, Judged, kept_by, checked_by, checked, faults_if}
 use Rattle.pas_types.specs.Marks.{noted, unless}
 use Rattle.pas_types.specs.Scopes.{each_new, new_names, contains}
@@ -46,9 +46,9 @@ pub and_then : {words more : List Word} (part next : Marks) → AsMany words par
     → AsMany (words ++ more) (followed part next)
 and_then {words = words} {more = more} part next h k = record {
   same = length-append part.tokens (at_first part.behind next).tokens
-  ∙ (ap (λ n. n + length (at_first part.behind next).tokens) h.same
-  ∙ (ap (λ n. length words + n) (first_count part.behind next.behind next.tokens ∙ k.same)
-  ∙ sym (length-append words more)));
+      ∙ (ap (λ n. n + length (at_first part.behind next).tokens) h.same
+      ∙ (ap (λ n. length words + n) (first_count part.behind next.behind next.tokens ∙ k.same)
+      ∙ sym (length-append words more)));
 }
 
 kept_count : {A : Type 0} (marks : Marks) (value : A) (faults : List Wrong)
@@ -95,8 +95,13 @@ pub listed_total : (part : Marks) (parts : List Marks) → suc (count (listed (p
 listed_total part [] = omega arith
 listed_total part (next ∷ parts) =
     let rest : Marks = listed (next ∷ parts) in
-    omega (arith, followed_count part (followed quiet (followed rest no_token)),
-    followed_count quiet (followed rest no_token), followed_count rest no_token, listed_total next parts)
+    omega (
+      arith,
+      followed_count part (followed quiet (followed rest no_token)),
+      followed_count quiet (followed rest no_token),
+      followed_count rest no_token,
+      listed_total next parts,
+    )
 
 pub noted_many : {A : Type 0} {words : List Word} (faults : A → List Wrong) (part : Judged A)
     → AsMany words part.marks → AsMany words (noted faults part).marks
@@ -125,8 +130,27 @@ between word last part h =
 pub regrouped : (words more last : List Word) (marks : Marks) → AsMany ((words ++ more) ++ last) marks
     → AsMany (words ++ (more ++ last)) marks
 regrouped words more last marks h = record {
-  same = omega (arith, h.same, length-append (words ++ more) last, length-append words more,
-      length-append words (more ++ last), length-append more last);
+  same = omega (
+    arith,
+    h.same,
+    length-append (words ++ more) last,
+    length-append words more,
+    length-append words (more ++ last),
+    length-append more last,
+  );
+}
+
+pub grouped : (words more last : List Word) (marks : Marks) → AsMany (words ++ (more ++ last)) marks
+    → AsMany ((words ++ more) ++ last) marks
+grouped words more last marks h = record {
+  same = omega (
+    arith,
+    h.same,
+    length-append (words ++ more) last,
+    length-append words more,
+    length-append words (more ++ last),
+    length-append more last,
+  );
 }
 
 pub some_listed_total : (parts : List Marks) → 0 < total parts → suc (count (listed parts)) ≡ total parts
@@ -139,9 +163,14 @@ pub listed_count : (name opened closed : Marks) (parts : List Marks) → 0 < tot
     ≡ count name + (count opened + (total parts + count closed))
 listed_count name opened closed parts h =
     let list : Marks = listed parts in
-    omega (arith, followed_count name (joined (opened ∷ list ∷ closed ∷ [])),
-    followed_count opened (joined (list ∷ closed ∷ [])), followed_count list (joined (closed ∷ [])),
-    followed_count closed no_token, some_listed_total parts h)
+    omega (
+      arith,
+      followed_count name (joined (opened ∷ list ∷ closed ∷ [])),
+      followed_count opened (joined (list ∷ closed ∷ [])),
+      followed_count list (joined (closed ∷ [])),
+      followed_count closed no_token,
+      some_listed_total parts h,
+    )
 
 -- a word, or a part, and what stands behind it
 pub next_word : {more : List Word} (word : Word) (faults : List Wrong) (rest : Marks) → AsMany more rest
@@ -162,7 +191,7 @@ new_total : (taken : List (List ℕ)) (idents : List Ident)
 new_total taken [] = refl
 new_total taken (ident ∷ idents) = omega (arith, new_total (taken ++ ident.name ∷ []) idents)
 
-more_idents : (n : ℕ) (more : List (Behind Ident))
+pub more_idents : (n : ℕ) (more : List (Behind Ident))
     → length (flat_map (λ behind. at n k.Comma behind.line ∷ (name_at n behind.item ∷ [])) more)
     ≡ length (map (λ behind. behind.item) more) + length (map (λ behind. behind.item) more)
 more_idents n [] = refl
@@ -175,6 +204,10 @@ new_names_many n taken idents =
     let marks : List Marks = each_new (taken ++ idents.first.name ∷ []) others in
     let first : Marks = shows (unless (not (contains taken idents.first.name)) (wrong DUPLICATE_NAME)) in
     record {
-      same = omega (arith, listed_total first marks, new_total (taken ++ idents.first.name ∷ []) others,
-          more_idents n idents.more);
+      same = omega (
+        arith,
+        listed_total first marks,
+        new_total (taken ++ idents.first.name ∷ []) others,
+        more_idents n idents.more,
+      );
     }

@@ -1,26 +1,26 @@
 -- Statements that call a procedure show as many lists of faults as they have words.
-use Rattle.std.proofs.Common.{◌≡◌, ◌≢◌, refl, sym, ap, ◌∙◌, ℕ, suc, ◌+◌, ◌<◌, arith, Bool, true, false, List, [], ◌∷◌}
+use Rattle.std.proofs.Common.{◌≡◌, refl, ℕ, suc, ◌+◌, ◌<◌, arith, Bool, true, false, List, [], ◌∷◌}
 use Rattle.std.proofs.Common.{◌++◌, length, map, Option, Some, None}
 use Rattle.std.specs.Prelude.{⊤, flat_map, if◌then◌else◌}
 use Rattle.std.proofs.lemmas.Option.{none-some}
 use Rattle.std.proofs.lemmas.List.{length-append}
 use Rattle.wb_base.specs.declared.faults.TheConstants.{UNKNOWN_NAME, WRONG_TYPE}
 use Rattle.pas_tokens.specs.declared.kinds.Kind.TheVariants as k
-use Rattle.pas_tokens.specs.Cutting.{Wrong, wrong}
+use Rattle.pas_tokens.specs.Cutting.{wrong}
 use Rattle.pas_syntax.specs.Tree as tree
 use Rattle.pas_syntax.specs.Tree.{Behind, Separated, Expr}
-use Rattle.pas_syntax.specs.Words.{Word, at, name_at, words_if, separated, expr_words, width_words, argument_words}
+use Rattle.pas_syntax.specs.Words.{Word, at, name_at, words_if, separated, width_words, argument_words}
 use Rattle.pas_syntax.specs.Words.{arguments_words, text_at}
-use Rattle.pas_types.specs.Marks.{Marks, no_token, shows, quiet, followed, joined, listed, Judged, checked}
+use Rattle.pas_types.specs.Marks.{Marks, no_token, shows, quiet, joined, Judged, checked}
 use Rattle.pas_types.specs.Types.{integer, PasType, Table, component_of}
 use Rattle.pas_types.specs.Typed.{Variable, Slot, Value, Place, Heading, Statement, Item}
 use Rattle.pas_types.specs.Typed as typed
 use Rattle.pas_types.specs.Scopes.{Scopes, Entity, constant, variable, routine, function, file_test, file_step}
-use Rattle.pas_types.specs.Scopes.{procedure, unclear, type, entity_of, Procedure, read, readln, write, writeln, uexit}
-use Rattle.pas_types.specs.Expressions.{value_of, only, type_of_place, file_only, Given, Demand, met, called, not_called}
+use Rattle.pas_types.specs.Scopes.{procedure, unclear, type, Procedure, read, readln, write, writeln, uexit}
+use Rattle.pas_types.specs.Expressions.{value_of, only, type_of_place, file_only, Given, Demand, met}
 use Rattle.pas_types.specs.Expressions.{demands_of, heading_of}
 use Rattle.pas_types.specs.Calls.{Actual, text_in, width_of, actual_of, actuals_of, no_width, without_width}
-use Rattle.pas_types.specs.Calls.{procedure_with, routine_with, step_with, halt_with, Extent, items_alone, whole_line}
+use Rattle.pas_types.specs.Calls.{procedure_with, routine_with, Extent, items_alone, whole_line}
 use Rattle.pas_types.specs.Calls.{Transfer, on_named, on_standard, transfer_by, transfer_of, named_file, missing_items}
 use Rattle.pas_types.specs.Calls.{transferred, demand_on_file, read_demand, read_item, read_with, width_value}
 use Rattle.pas_types.specs.Calls.{printed_only, item_on_text, write_text, component_demand, write_bytes, write_items}
@@ -59,17 +59,25 @@ more_actuals_total : (scopes : Scopes) (n : ℕ) (more : List (Behind tree.Argum
     ≡ length (flat_map (λ behind. at n k.Comma behind.line ∷ argument_words n behind.item) more)
 more_actuals_total scopes n [] = refl
 more_actuals_total scopes n (behind ∷ more) =
-    omega (arith, (argument_many scopes n behind.item).same, more_actuals_total scopes n more,
-    length-append (at n k.Comma behind.line ∷ argument_words n behind.item)
-    (flat_map (λ other. at n k.Comma other.line ∷ argument_words n other.item) more))
+    omega (
+      arith,
+      (argument_many scopes n behind.item).same,
+      more_actuals_total scopes n more,
+      length-append (at n k.Comma behind.line ∷ argument_words n behind.item)
+          (flat_map (λ other. at n k.Comma other.line ∷ argument_words n other.item) more),
+    )
 
 pub actuals_total : (scopes : Scopes) (n : ℕ) (arguments : Separated tree.Argument)
     → total (all_marks (actuals_of scopes arguments))
     ≡ suc (length (separated n k.Comma (argument_words n) arguments))
 actuals_total scopes n arguments =
-    omega (arith, (argument_many scopes n arguments.first).same, more_actuals_total scopes n arguments.more,
-    length-append (argument_words n arguments.first)
-    (flat_map (λ behind. at n k.Comma behind.line ∷ argument_words n behind.item) arguments.more))
+    omega (
+      arith,
+      (argument_many scopes n arguments.first).same,
+      more_actuals_total scopes n arguments.more,
+      length-append (argument_words n arguments.first)
+          (flat_map (λ behind. at n k.Comma behind.line ∷ argument_words n behind.item) arguments.more),
+    )
 
 -- a string that is written as one is one token
 abbrev pub IsActual : Actual → Type 0
@@ -155,9 +163,14 @@ transferred_count extent transfer actuals item same h some =
     let items : List Marks = map (λ found. found.marks) (map item transfer.items) in
     let sum : total items ≡ total (all_marks transfer.items) = items_total item same transfer.items h.items in
     let parts : total (transfer.file_marks ++ items) ≡ total (all_marks actuals) =
-      omega (arith, total_append transfer.file_marks items, sum, h.parts) in
-    omega (arith, parts, h.name, listed_count transfer.name quiet (shows (missing_items extent transfer.items))
-    (transfer.file_marks ++ items) (omega (arith, parts, some)))
+    omega (arith, total_append transfer.file_marks items, sum, h.parts) in
+    omega (
+      arith,
+      parts,
+      h.name,
+      listed_count transfer.name quiet (shows (missing_items extent transfer.items))
+          (transfer.file_marks ++ items) (omega (arith, parts, some)),
+    )
 
 read_item_count : (table : Table) (file : Option Place) (actual : Actual) → IsActual actual
     → count (read_item table file actual).marks ≡ count (plain_marks (without_width actual))
@@ -167,26 +180,38 @@ width_count : (table : Table) (width : Option (Judged Value))
     → count (width_value table width).marks ≡ count (no_width width).marks
 width_count table None = refl
 width_count table (Some width) =
-    omega (arith, checked_count (only integer table) width,
-    followed_count quiet (joined ((checked (only integer table) width).marks ∷ [])),
-    followed_count (checked (only integer table) width).marks no_token,
-    followed_count (shows (wrong WRONG_TYPE ∷ [])) (joined (width.marks ∷ [])), followed_count width.marks no_token)
+    omega (
+      arith,
+      checked_count (only integer table) width,
+      followed_count quiet (joined ((checked (only integer table) width).marks ∷ [])),
+      followed_count (checked (only integer table) width).marks no_token,
+      followed_count (shows (wrong WRONG_TYPE ∷ [])) (joined (width.marks ∷ [])),
+      followed_count width.marks no_token,
+    )
 
 on_text_count : (table : Table) (actual : Actual) (text : Option (List ℕ)) → actual.text ≡ text → IsActual actual
     → count (item_on_text table actual text).marks ≡ count (plain_marks (without_width actual))
 on_text_count table actual None same h =
     let found : Judged Value = checked (printed_only table) actual.value in
-    omega (arith, checked_count (printed_only table) actual.value, width_count table actual.width,
-    followed_count found.marks (joined ((width_value table actual.width).marks ∷ [])),
-    followed_count (width_value table actual.width).marks no_token,
-    followed_count actual.value.marks (joined ((no_width actual.width).marks ∷ [])),
-    followed_count (no_width actual.width).marks no_token)
+    omega (
+      arith,
+      checked_count (printed_only table) actual.value,
+      width_count table actual.width,
+      followed_count found.marks (joined ((width_value table actual.width).marks ∷ [])),
+      followed_count (width_value table actual.width).marks no_token,
+      followed_count actual.value.marks (joined ((no_width actual.width).marks ∷ [])),
+      followed_count (no_width actual.width).marks no_token,
+    )
 on_text_count table actual (Some bytes) same h =
-    omega (arith, h bytes same, width_count table actual.width,
-    followed_count quiet (joined ((width_value table actual.width).marks ∷ [])),
-    followed_count (width_value table actual.width).marks no_token,
-    followed_count actual.value.marks (joined ((no_width actual.width).marks ∷ [])),
-    followed_count (no_width actual.width).marks no_token)
+    omega (
+      arith,
+      h bytes same,
+      width_count table actual.width,
+      followed_count quiet (joined ((width_value table actual.width).marks ∷ [])),
+      followed_count (width_value table actual.width).marks no_token,
+      followed_count actual.value.marks (joined ((no_width actual.width).marks ∷ [])),
+      followed_count (no_width actual.width).marks no_token,
+    )
 
 -- reading and writing
 read_count : (extent : Extent) (table : Table) (slot : Option Slot) (actuals : List Actual) → AreActual actuals
@@ -313,11 +338,14 @@ call_many scopes n name entity None = call_alone_many scopes (name_at n name) en
 call_many scopes n name entity (Some arguments) =
     let actuals : List Actual = actuals_of scopes arguments.items in
     let sum : total (all_marks actuals)
-      ≡ suc (length (separated (n + 1) k.Comma (argument_words (n + 1)) arguments.items)) =
-      actuals_total scopes (n + 1) arguments.items in
+    ≡ suc (length (separated (n + 1) k.Comma (argument_words (n + 1)) arguments.items)) =
+    actuals_total scopes (n + 1) arguments.items in
     record {
-      same = omega (arith, sum,
-          call_by_count scopes actuals entity (are_actual scopes arguments.items) (omega (arith, sum)),
-          length-append (separated (n + 1) k.Comma (argument_words (n + 1)) arguments.items)
-          (at (n + 1) k.RightParenthesis arguments.closed ∷ []));
+      same = omega (
+        arith,
+        sum,
+        call_by_count scopes actuals entity (are_actual scopes arguments.items) (omega (arith, sum)),
+        length-append (separated (n + 1) k.Comma (argument_words (n + 1)) arguments.items)
+            (at (n + 1) k.RightParenthesis arguments.closed ∷ []),
+      );
     }

@@ -1,5 +1,5 @@
 -- Expressions and variables show as many lists of faults as they have words.
-use Rattle.std.proofs.Common.{◌≡◌, refl, sym, ap, ◌∙◌, ℕ, suc, ◌+◌, ◌<◌, arith, Bool, true, false, List, [], ◌∷◌, ◌++◌}
+use Rattle.std.proofs.Common.{◌≡◌, refl, sym, ap, ◌∙◌, ℕ, suc, ◌+◌, ◌<◌, arith, List, [], ◌∷◌, ◌++◌}
 use Rattle.std.proofs.Common.{length, map, Option, Some, None}
 use Rattle.std.specs.Prelude.{nat_le}
 use Rattle.std.proofs.lemmas.List.{length-append}
@@ -15,13 +15,12 @@ use Rattle.pas_syntax.specs.declared.operators.Adding.{Adding}
 use Rattle.pas_syntax.specs.declared.operators.Relation.{Relation}
 use Rattle.pas_syntax.specs.Tree as tree
 use Rattle.pas_syntax.specs.Tree.{Ident, Expr, Sum, Term, Factor, Exprs}
-use Rattle.pas_types.specs.Marks.{Marks, no_token, shows, quiet, first_of, at_first, last_of, at_last, with_behind}
-use Rattle.pas_types.specs.Marks.{followed, joined, listed, Judged, kept_by, checked_by, checked, noted, unless}
+use Rattle.pas_types.specs.Marks.{Marks, no_token, shows, quiet}
+use Rattle.pas_types.specs.Marks.{followed, joined, Judged, checked, noted, unless}
 use Rattle.pas_types.specs.Types.{integer, boolean, PasType, Table, ArrayParts, Field, elements_of, fields_of}
-use Rattle.pas_types.specs.Typed.{Function, FileTest, Place, Value, Variable, Slot, Heading}
-use Rattle.pas_types.specs.Typed as typed
+use Rattle.pas_types.specs.Typed.{FileTest, Place, Value, Variable, Slot, Heading}
 use Rattle.pas_types.specs.Scopes.{Scopes, Entity, constant, variable, routine, function, file_test, file_step}
-use Rattle.pas_types.specs.Scopes.{procedure, unclear, type, entity_of, standard_file}
+use Rattle.pas_types.specs.Scopes.{procedure, unclear, type, entity_of}
 use Rattle.pas_types.specs.TypeForms.{undoubled}
 use Rattle.pas_types.specs.Expressions.{value_of, sum_of, term_of, factor_of, variable_value, place_of, elements_at}
 use Rattle.pas_types.specs.Expressions.{values_of, as_value, as_place, without_arguments, function_alone, test_alone}
@@ -32,9 +31,9 @@ use Rattle.pas_types.specs.Expressions.{as_call, bare_argument, call_with, funct
 use Rattle.pas_types.specs.Expressions.{comparison_of, addition_of, addition_base, product_of, product_base}
 use Rattle.pas_types.specs.Expressions.{element_of, field_of, buffer_of, closed_by, demands_of, function_demand, test_demand}
 use Rattle.pas_types.proofs.TypesAsMany.{char_many}
-use Rattle.pas_types.proofs.AsMany.{AsMany, none, one, and_then, all, at_first_many, checked_many, noted_many, around, behind_word}
+use Rattle.pas_types.proofs.AsMany.{AsMany, one, at_first_many, checked_many, noted_many, around, behind_word}
 use Rattle.pas_types.proofs.AsMany.{before_word, between, count}
-use Rattle.pas_types.proofs.AsMany.{total, total_append, listed_total, followed_count, checked_count, first_count}
+use Rattle.pas_types.proofs.AsMany.{total, followed_count, checked_count, first_count}
 use Rattle.pas_types.proofs.AsMany.{regrouped, listed_count}
 
 -- names
@@ -132,19 +131,27 @@ arguments_total (demand ∷ demands) (argument ∷ arguments) =
     omega (arith, met_count demand argument, arguments_total demands arguments)
 arguments_total [] (argument ∷ arguments) =
     let plain : Marks = (met asked_nothing argument).marks in
-    omega (arith, first_count (wrong WRONG_TYPE ∷ []) plain.behind plain.tokens, met_count asked_nothing argument,
-    met_total asked_nothing arguments)
+    omega (
+      arith,
+      first_count (wrong WRONG_TYPE ∷ []) plain.behind plain.tokens,
+      met_count asked_nothing argument,
+      met_total asked_nothing arguments,
+    )
 arguments_total demands [] = refl
 
 pub called_count : (demands : List Demand) (arguments : List Given) → 0 < total (map plain_marks arguments)
     → count (called demands arguments) ≡ suc (suc (total (map plain_marks arguments)))
 called_count demands arguments h =
     let is : total (argument_marks demands arguments) ≡ total (map plain_marks arguments) =
-      arguments_total demands arguments in
+    arguments_total demands arguments in
     let some : 0 < total (argument_marks demands arguments) = omega (arith, h, is) in
-    omega (arith, is, listed_count quiet quiet
-    (shows (unless (nat_le (length demands) (length arguments)) (wrong WRONG_TYPE)))
-    (argument_marks demands arguments) some)
+    omega (
+      arith,
+      is,
+      listed_count quiet quiet
+          (shows (unless (nat_le (length demands) (length arguments)) (wrong WRONG_TYPE)))
+          (argument_marks demands arguments) some,
+    )
 
 pub not_called_count : (faults : List Wrong) (arguments : List Given) → 0 < total (map plain_marks arguments)
     → count (not_called faults arguments) ≡ suc (suc (total (map plain_marks arguments)))
@@ -283,11 +290,15 @@ module _ (scopes : Scopes) where
     factor_many n a (tree.function_call name opened arguments closed) =
         let given : List Given = map bare_argument (values_of scopes arguments) in
         let all_values : total (map plain_marks given) ≡ suc (length (exprs_words (n + 1) a arguments)) =
-          values_total (n + 1) a arguments in
+        values_total (n + 1) a arguments in
         record {
-          same = omega (arith, all_values, call_count scopes given (entity_of scopes name.name)
-              (omega (arith, all_values)),
-              length-append (exprs_words (n + 1) a arguments) (at (n + 1) k.RightParenthesis closed ∷ []));
+          same = omega (
+            arith,
+            all_values,
+            call_count scopes given (entity_of scopes name.name)
+                (omega (arith, all_values)),
+            length-append (exprs_words (n + 1) a arguments) (at (n + 1) k.RightParenthesis closed ∷ []),
+          );
         }
     factor_many n a (tree.set_value line) = one (words.shows n k.LeftBracket line SETS) []
     factor_many n a (tree.nil line) = one (words.shows n k.Nil line POINTERS) []
@@ -337,6 +348,11 @@ module _ (scopes : Scopes) where
     values_total n a (tree.first_expr e) =
         omega (arith, (value_many n a e).same, followed_count (value_of scopes e).marks (followed no_token no_token))
     values_total n a (tree.more_exprs before line e) =
-        omega (arith, bare_total (values_of scopes before) (value_of scopes e ∷ []), values_total n a before,
-        (value_many n a e).same, followed_count (value_of scopes e).marks (followed no_token no_token),
-        length-append (exprs_words n a before) (at n k.Comma line ∷ expr_words n a e))
+        omega (
+          arith,
+          bare_total (values_of scopes before) (value_of scopes e ∷ []),
+          values_total n a before,
+          (value_many n a e).same,
+          followed_count (value_of scopes e).marks (followed no_token no_token),
+          length-append (exprs_words n a before) (at n k.Comma line ∷ expr_words n a e),
+        )

@@ -1,12 +1,11 @@
 -- Statements show as many lists of faults as they have words.
-use Rattle.std.proofs.Common.{◌≡◌, refl, sym, ap, ◌∙◌, ℕ, suc, ◌+◌, ◌<◌, arith, Bool, true, false, List, [], ◌∷◌, ◌++◌}
-use Rattle.std.proofs.Common.{length, map, ℤ, Option, Some, None}
+use Rattle.std.proofs.Common.{ℕ, ◌+◌, Bool, true, false, List, [], ◌∷◌, ◌++◌}
+use Rattle.std.proofs.Common.{ℤ, Option, Some, None}
 use Rattle.std.specs.Prelude.{flat_map, if◌then◌else◌, ◌==◌, nat_lt, option_and_then}
-use Rattle.wb_base.specs.declared.faults.TheConstants.{UNKNOWN_NAME, WRONG_TYPE, WRONG_LABEL, WRONG_GOTO}
+use Rattle.wb_base.specs.declared.faults.TheConstants.{WRONG_TYPE, WRONG_LABEL, WRONG_GOTO}
 use Rattle.wb_base.specs.declared.faults.TheConstants.{CONSTANT_OUT_OF_RANGE, WITH_STATEMENTS}
 use Rattle.pas_tokens.specs.declared.kinds.Kind.TheVariants as k
 use Rattle.pas_tokens.specs.Cutting.{Wrong, wrong}
-use Rattle.pas_syntax.specs.declared.operators.Way.{Way}
 use Rattle.pas_syntax.specs.Tree as tree
 use Rattle.pas_syntax.specs.Tree.{Behind, Separated, Constant, Plain, Statement, Statements, Elements, Others}
 use Rattle.pas_syntax.specs.Words.{Word, at, name_at, number_at, separated, expr_words, variable_words, constant_words}
@@ -14,7 +13,7 @@ use Rattle.pas_syntax.specs.Words.{plain_words, statement_words, statements_word
 use Rattle.pas_syntax.specs.Words.{others_word, way_kind, maybe}
 use Rattle.pas_syntax.specs.Words as words
 use Rattle.pas_types.specs.declared.limits.TheConstants.{GREATEST_LABEL}
-use Rattle.pas_types.specs.Marks.{Marks, no_token, shows, quiet, followed, joined, Judged, judged, checked, means}
+use Rattle.pas_types.specs.Marks.{Marks, no_token, shows, quiet, joined, Judged, judged, checked, means}
 use Rattle.pas_types.specs.Marks.{refuses}
 use Rattle.pas_types.specs.Types.{Base, boolean, PasType, Table}
 use Rattle.pas_types.specs.Typed.{Slot, Value, Place, Arms}
@@ -22,15 +21,14 @@ use Rattle.pas_types.specs.Typed as typed
 use Rattle.pas_types.specs.Scopes.{Outer, Inner, Scopes, Entity, constant, variable, routine, function, file_test}
 use Rattle.pas_types.specs.Scopes.{file_step, procedure, unclear, type, entity_of}
 use Rattle.pas_types.specs.TypeForms.{ConstantValue, constant_of, maybe_quiet}
-use Rattle.pas_types.specs.Expressions.{value_of, place_of, only, ordinal_only, heading_of}
+use Rattle.pas_types.specs.Expressions.{value_of, only, ordinal_only, heading_of}
 use Rattle.pas_types.specs.Labels.{Spot, in_list, elsewhere, label_faults, goto_of, goto_in, to_list, to_program}
 use Rattle.pas_types.specs.Labels.{has_label, is_last, labels_at, labels_in_list, labels_in_elements, labels_of_list}
 use Rattle.pas_types.specs.Statements.{Target, target_result, target_routine, target_named, target_of, assigned_only}
-use Rattle.pas_types.specs.Statements.{fits_target, assignment_of, condition, counts, for_variable, fits_slot, for_of}
+use Rattle.pas_types.specs.Statements.{fits_target, counts, for_variable, fits_slot}
 use Rattle.pas_types.specs.Statements.{fits_case, values_known, with_constant, more_constants, constants_of}
-use Rattle.pas_types.specs.Statements.{constants_in, base_of_value, test_of, marks_of_label, plain_of, statement_of}
+use Rattle.pas_types.specs.Statements.{constants_in, base_of_value, test_of, plain_of, statement_of}
 use Rattle.pas_types.specs.Statements.{statements_of, arms_of, others_of}
-use Rattle.pas_types.specs.Calls.{call_of}
 use Rattle.pas_types.proofs.AsMany.{AsMany, none, one, and_then, all, next_word, around, behind_word, before_word}
 use Rattle.pas_types.proofs.AsMany.{between, checked_many, maybe_many, regrouped, nothing_behind}
 use Rattle.pas_types.proofs.TypesAsMany.{constant_many}

@@ -1,9 +1,9 @@
 -- Constants and type expressions show as many lists of faults as they have words.
-use Rattle.std.proofs.Common.{◌≡◌, refl, sym, ap, ◌∙◌, ℕ, suc, ◌+◌, ◌<◌, arith, Bool, true, false, List, [], ◌∷◌, ◌++◌}
-use Rattle.std.proofs.Common.{length, map, pos, Option, Some, None}
+use Rattle.std.proofs.Common.{ℕ, ◌+◌, Bool, true, false, List, [], ◌∷◌, ◌++◌}
+use Rattle.std.proofs.Common.{pos, Option, Some, None}
 use Rattle.std.specs.Prelude.{flat_map, codes, if◌then◌else◌}
 use Rattle.std.specs.Str.{bytes_eq}
-use Rattle.wb_base.specs.declared.faults.TheConstants.{UNKNOWN_NAME, REAL_NUMBERS, ENUMERATIONS, SETS, POINTERS}
+use Rattle.wb_base.specs.declared.faults.TheConstants.{UNKNOWN_NAME, REAL_NUMBERS}
 use Rattle.pas_tokens.specs.declared.kinds.Kind.TheVariants as k
 use Rattle.pas_tokens.specs.Cutting.{Wrong, wrong}
 use Rattle.pas_syntax.specs.declared.operators.Sign.{Sign}
@@ -11,19 +11,19 @@ use Rattle.pas_syntax.specs.Parse.{left_out}
 use Rattle.pas_syntax.specs.Tree as tree
 use Rattle.pas_syntax.specs.Tree.{Ident, Lined, Behind, Separated, Idents, Constant, Simple, TypeForm, Fields}
 use Rattle.pas_syntax.specs.Tree.{LeftOutType}
-use Rattle.pas_syntax.specs.Words.{Word, at, name_at, number_at, text_at, maybe, words_if, separated, idents_words}
+use Rattle.pas_syntax.specs.Words.{Word, at, name_at, number_at, text_at, words_if, separated}
 use Rattle.pas_syntax.specs.Words.{sign_kind, constant_sign, constant_words, left_out_type_words, simple_words}
 use Rattle.pas_syntax.specs.Words.{type_words, fields_words}
-use Rattle.pas_types.specs.Marks.{Marks, no_token, shows, quiet, followed, joined, listed, Judged, checked, noted}
-use Rattle.pas_types.specs.Marks.{judged, means, refuses, unless, known, both}
+use Rattle.pas_types.specs.Marks.{Marks, no_token, quiet, joined, Judged, checked, noted}
+use Rattle.pas_types.specs.Marks.{judged, means, refuses, known, both}
 use Rattle.pas_types.specs.Types.{integer, PasType, Table, fields}
 use Rattle.pas_types.specs.Scopes.{Scopes, Entity, constant, variable, routine, function, file_test, file_step}
-use Rattle.pas_types.specs.Scopes.{procedure, unclear, type, entity_of, new_names, spellings_of}
+use Rattle.pas_types.specs.Scopes.{procedure, unclear, type, entity_of, new_names}
 use Rattle.pas_types.specs.TypeForms.{ConstantValue, known_value, char_in, undoubled, as_constant, integer_only}
-use Rattle.pas_types.specs.TypeForms.{behind_sign, constant_of, Made, as_type, type_named, fits_below, subrange_of}
+use Rattle.pas_types.specs.TypeForms.{behind_sign, constant_of, Made, as_type, type_named, fits_below}
 use Rattle.pas_types.specs.TypeForms.{simple_of, index_only, Indexes, no_indexes, with_index, table_of_indexes}
-use Rattle.pas_types.specs.TypeForms.{more_indexes, indexes_of, no_file, within_limit, array_of, component_only, file_of}
-use Rattle.pas_types.specs.TypeForms.{Group, no_fields, table_of_fields, group_of, record_of, field_names, form_of}
+use Rattle.pas_types.specs.TypeForms.{more_indexes, indexes_of, no_file, within_limit, component_only}
+use Rattle.pas_types.specs.TypeForms.{Group, table_of_fields, field_names, form_of}
 use Rattle.pas_types.specs.TypeForms.{groups_of, maybe_quiet, arrays, made}
 use Rattle.pas_types.proofs.AsMany.{AsMany, none, one, and_then, all, next_word, around, behind_word, before_word}
 use Rattle.pas_types.proofs.AsMany.{checked_many, noted_many, maybe_many, new_names_many, regrouped, nothing_behind}
