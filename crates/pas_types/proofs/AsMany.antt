@@ -1,4 +1,4 @@
--- Each part of a program shows as many lists of faults as it has words, so the faults of a token stand beside its word.
+-- Each part of a program shows as many lists of faults as it has words: the faults of a token stand beside its word.
 use Rattle.std.proofs.Common.{◌≡◌, refl, sym, ap, ◌∙◌, ℕ, suc, ◌+◌, ◌<◌, arith, List, [], ◌∷◌, ◌++◌}
 use Rattle.std.proofs.Common.{length, map, Option, Some, None}
 use Rattle.std.proofs.lemmas.List.{length-append}

@@ -105,7 +105,8 @@ are_actual scopes arguments =
 
 -- calls of routines, of the steps of files, and of `uexit`
 procedure_count : (scopes : Scopes) (number : ℕ) (heading : Heading) (arguments : List Given) (result : Option PasType)
-    → 0 < total (map plain_marks arguments) → IsCall arguments (procedure_with scopes number heading arguments result).marks
+    → 0 < total (map plain_marks arguments)
+    → IsCall arguments (procedure_with scopes number heading arguments result).marks
 procedure_count scopes number heading arguments None h =
     called_count (demands_of scopes.outer.types heading.parameters) arguments h
 procedure_count scopes number heading arguments (Some found) h = not_called_count (wrong WRONG_TYPE ∷ []) arguments h
@@ -266,7 +267,8 @@ write_count whole_line table slot actuals h some =
 procedure_of_count : (scopes : Scopes) (found : Procedure) (actuals : List Actual) → AreActual actuals
     → 0 < total (all_marks actuals) → IsCall (given_of actuals) (procedure_of scopes found actuals).marks
 procedure_of_count scopes read actuals h some = read_count items_alone scopes.outer.types (input scopes) actuals h some
-procedure_of_count scopes readln actuals h some = read_count whole_line scopes.outer.types (input scopes) actuals h some
+procedure_of_count scopes readln actuals h some =
+    read_count whole_line scopes.outer.types (input scopes) actuals h some
 procedure_of_count scopes write actuals h some =
     write_count items_alone scopes.outer.types (output scopes) actuals h some
 procedure_of_count scopes writeln actuals h some =

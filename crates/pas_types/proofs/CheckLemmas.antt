@@ -16,7 +16,8 @@ use Rattle.pas_types.specs.Typed.{TypedProgram, Statements}
 use Rattle.pas_types.specs.Scopes.{Outer, contains, idents_of, entity_in}
 use Rattle.pas_types.specs.Labels.{labels_of_list}
 use Rattle.pas_types.specs.Statements.{statements_of}
-use Rattle.pas_types.specs.Declarations.{label_marks, program_scopes, Stage, rows_of, constant_row, type_row, global_row}
+use Rattle.pas_types.specs.Declarations.{label_marks, program_scopes, Stage, rows_of, constant_row, type_row}
+use Rattle.pas_types.specs.Declarations.{global_row}
 use Rattle.pas_types.specs.Routines.{label_missing, RoutineStage, routines_of}
 use Rattle.pas_types.specs.Check.{start, parameter_faults, each_parameter, parameter_marks, body_missing, checked_of}
 use Rattle.pas_types.specs.Check.{Means, IsFaultOf}
@@ -70,8 +71,8 @@ program_many program =
     let last : List Word = at 0 k.Dot program.dot ∷ (at 0 k.EndOfText program.end ∷ []) in
     let ended : Marks = joined (shows faults ∷ quiet ∷ quiet ∷ []) in
     let at_list : List Word = statements_words 1 program.body.list in
-    let compound : AsMany (compound_words program.body ++ last) (joined (quiet ∷ list.marks ∷ shows faults ∷ quiet ∷ quiet
-    ∷ [])) =
+    let compound : AsMany (compound_words program.body ++ last)
+        (joined (quiet ∷ list.marks ∷ shows faults ∷ quiet ∷ quiet ∷ [])) =
     next_word (at 1 k.Begin program.body.begin) [] (followed list.marks ended)
     (grouped at_list (at 1 k.End program.body.end ∷ []) last (followed list.marks ended)
     (and_then list.marks ended

@@ -24,12 +24,14 @@ use Rattle.pas_types.specs.Scopes.{procedure, unclear, type, entity_of}
 use Rattle.pas_types.specs.TypeForms.{undoubled}
 use Rattle.pas_types.specs.Expressions.{value_of, sum_of, term_of, factor_of, variable_value, place_of, elements_at}
 use Rattle.pas_types.specs.Expressions.{values_of, as_value, as_place, without_arguments, function_alone, test_alone}
-use Rattle.pas_types.specs.Expressions.{heading_of, only, ordinal_only, type_of_place, like, record_only, files_only, array_only}
+use Rattle.pas_types.specs.Expressions.{heading_of, only, ordinal_only, type_of_place, like, record_only, files_only}
+use Rattle.pas_types.specs.Expressions.{array_only}
 use Rattle.pas_types.specs.Expressions.{indexed_by, element_by, field_at, field_in, field_by, as_array}
 use Rattle.pas_types.specs.Expressions.{Given, met, argument_marks, asked_nothing, Demand, called, not_called}
 use Rattle.pas_types.specs.Expressions.{as_call, bare_argument, call_with, function_call_of}
 use Rattle.pas_types.specs.Expressions.{comparison_of, addition_of, addition_base, product_of, product_base}
-use Rattle.pas_types.specs.Expressions.{element_of, field_of, buffer_of, closed_by, demands_of, function_demand, test_demand}
+use Rattle.pas_types.specs.Expressions.{element_of, field_of, buffer_of, closed_by, demands_of, function_demand}
+use Rattle.pas_types.specs.Expressions.{test_demand}
 use Rattle.pas_types.proofs.TypesAsMany.{char_many}
 use Rattle.pas_types.proofs.AsMany.{AsMany, one, at_first_many, checked_many, noted_many, around, behind_word}
 use Rattle.pas_types.proofs.AsMany.{before_word, between, count}
@@ -314,7 +316,8 @@ module _ (scopes : Scopes) where
         (elements_many (n + 1) a array (at (n + 1) k.LeftBracket opened) indexes
         (checked_many (array_only scopes.outer.types) (place_of scopes v) (place_many n a v)))
     variable_value_many n a (tree.field_of v line ident) =
-        field_of_many (at n k.Dot line) (name_at n ident) scopes.outer.types (place_of scopes v) ident (place_many n a v)
+        field_of_many (at n k.Dot line) (name_at n ident) scopes.outer.types (place_of scopes v) ident
+        (place_many n a v)
     variable_value_many n a (tree.buffer_of v line) =
         buffer_of_many (at n k.Caret line) scopes.outer.types (place_of scopes v) (place_many n a v)
 
@@ -327,7 +330,8 @@ module _ (scopes : Scopes) where
         (elements_many (n + 1) a array (at (n + 1) k.LeftBracket opened) indexes
         (checked_many (array_only scopes.outer.types) (place_of scopes v) (place_many n a v)))
     place_many n a (tree.field_of v line ident) =
-        field_of_many (at n k.Dot line) (name_at n ident) scopes.outer.types (place_of scopes v) ident (place_many n a v)
+        field_of_many (at n k.Dot line) (name_at n ident) scopes.outer.types (place_of scopes v) ident
+        (place_many n a v)
     place_many n a (tree.buffer_of v line) =
         buffer_of_many (at n k.Caret line) scopes.outer.types (place_of scopes v) (place_many n a v)
 

@@ -120,7 +120,8 @@ goto_in_many word outer None labels label =
     last_many word (has_label outer.labels label)
     (if is_last outer.last_label label then means (typed.goto_last 0) else to_list (has_label labels label) label)
     (refuses (wrong WRONG_LABEL))
-    (last_many word (is_last outer.last_label label) (means (typed.goto_last 0)) (to_list (has_label labels label) label)
+    (last_many word (is_last outer.last_label label) (means (typed.goto_last 0))
+    (to_list (has_label labels label) label)
     (one word []) (to_list_many word (has_label labels label) label))
     (one word (wrong WRONG_LABEL ∷ []))
 goto_in_many word outer (Some inner) labels label =
