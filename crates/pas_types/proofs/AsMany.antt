@@ -29,7 +29,7 @@ pub first_count : (faults behind : List Wrong) (tokens : List (List Wrong))
 first_count faults behind [] = refl
 first_count faults behind (first ∷ more) = refl
 
-last_count : (faults : List Wrong) (tokens : List (List Wrong)) → length (last_of faults tokens) ≡ length tokens
+pub last_count : (faults : List Wrong) (tokens : List (List Wrong)) → length (last_of faults tokens) ≡ length tokens
 last_count faults [] = refl
 last_count faults (last ∷ []) = refl
 last_count faults (first ∷ (second ∷ more)) = ap suc (last_count faults (second ∷ more))

@@ -6,3 +6,4 @@ pub mod StatementsAsMany
 pub mod DeclarationsAsMany
 pub mod RoutinesAsMany
 pub mod CheckLemmas
+pub mod EndLemmas
