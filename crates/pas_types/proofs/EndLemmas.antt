@@ -6,11 +6,13 @@ use Rattle.std.proofs.lemmas.List.{length-append, append-nil, append_assoc}
 use Rattle.std.proofs.lemmas.List.Sums.{fold-append}
 use Rattle.std.proofs.lemmas.Option.{none-some}
 use Rattle.wb_base.specs.declared.faults.Fault.{Fault}
-use Rattle.pas_tokens.specs.Cutting.{Wrong}
+use Rattle.wb_base.specs.declared.faults.TheConstants.{WRONG_TYPE}
+use Rattle.pas_tokens.specs.Cutting.{Wrong, wrong}
 use Rattle.pas_tokens.specs.Tokens.{fault_in}
 use Rattle.pas_syntax.specs.Words.{Word}
 use Rattle.pas_types.specs.Marks.{Marks, no_token, shows, quiet, first_of, at_first, last_of, at_last, followed, joined}
-use Rattle.pas_types.specs.Marks.{Judged, judged, noted, faults_if, lowest, first_fault}
+use Rattle.pas_types.specs.Marks.{Judged, judged, noted, checked, checked_by, kept_by, faults_if, lowest}
+use Rattle.pas_types.specs.Marks.{first_fault}
 use Rattle.pas_types.proofs.AsMany.{first_count, last_count}
 use Rattle.pas_types.specs.inner.Ends.{AreQuiet, lowest_of, lower_of, End, shown_behind, Ends, Stops}
 
@@ -256,4 +258,103 @@ noted_stops words demand part fault h =
           (sym (last_of_both shown more part.marks.tokens))
           (h.first (shown ++ more) (λ none. ap (λ (value : Option _). faults_if demand value ++ more) none
           ∙ nothing none));
+    }
+
+kept_stops : {A : Type 0} (words : List Word) (marks : Marks) (value : A) (faults : List Wrong) (fault : Fault)
+    → Stops words (judged marks (Some value)) fault → Stops words (kept_by marks value faults) fault
+kept_stops words marks value [] fault h = h
+kept_stops words marks value (refusal ∷ others) fault h =
+    let shown : List Wrong = refusal ∷ others in
+    record {
+      many = last_count shown marks.tokens ∙ h.many;
+      first = λ more nothing. subst (λ tokens. first_fault words tokens ≡ Some fault)
+          (sym (last_of_both shown more marks.tokens))
+          (h.first (shown ++ more) (λ none. absurd (none-some value (sym none))));
+    }
+
+checked_value_stops : {A : Type 0} (words : List Word) (demand : A → List Wrong) (marks : Marks) (value : Option A)
+    (fault : Fault) → Stops words (judged marks value) fault → Stops words (checked_by demand marks value) fault
+checked_value_stops words demand marks None fault h = h
+checked_value_stops words demand marks (Some value) fault h = kept_stops words marks value (demand value) fault h
+
+pub checked_stops : {A : Type 0} (words : List Word) (demand : A → List Wrong) (part : Judged A) (fault : Fault)
+    → Stops words part fault → Stops words (checked demand part) fault
+checked_stops words demand part fault h = checked_value_stops words demand part.marks part.value fault h
+
+pub noted_fine : {A : Type 0} (words : List Word) (demand : A → List Wrong) (part : Judged A) (value : A) (line : ℕ)
+    (refusal : Option Wrong) (is_short : Bool) → demand value ≡ [] → Ends words part value line refusal is_short
+    → Ends words (noted demand part) value line refusal is_short
+noted_fine words demand part value line refusal is_short fine h = record {
+  known = h.known;
+  end = subst (λ tokens. End words tokens line refusal)
+      (sym (ap (λ faults. last_of faults part.marks.tokens) (ap (faults_if demand) h.known ∙ fine)
+      ∙ last_of_nothing part.marks.tokens)) h.end;
+  behind = h.behind;
+}
+
+pub noted_refused : {A : Type 0} (words : List Word) (demand : A → List Wrong) (part : Judged A) (value : A)
+    (line : ℕ) (refusal : Option Wrong) (is_short : Bool) (found : Wrong) → demand value ≡ found ∷ []
+    → Ends words part value line refusal is_short
+    → Ends words (noted demand part) value line (Some (lower_of refusal found)) is_short
+noted_refused words demand part value line refusal is_short found refused h = record {
+  known = h.known;
+  end = subst (λ faults. End words (last_of faults part.marks.tokens) line (Some (lower_of refusal found)))
+      (sym (ap (faults_if demand) h.known ∙ refused))
+      (end_refused words part.marks.tokens line refusal found h.end);
+  behind = h.behind;
+}
+
+-- a part that breaks a rule, and of which nothing is known then
+pub checked_fine : {A : Type 0} (words : List Word) (demand : A → List Wrong) (part : Judged A) (value : A) (line : ℕ)
+    (refusal : Option Wrong) (is_short : Bool) → demand value ≡ [] → Ends words part value line refusal is_short
+    → Ends words (checked demand part) value line refusal is_short
+checked_fine {A = A} words demand part value line refusal is_short fine h =
+    subst (λ (whole : Judged A). Ends words whole value line refusal is_short)
+    (sym (ap (checked_by demand part.marks) h.known ∙ ap (kept_by part.marks value) fine))
+    record { known = refl; end = h.end; behind = h.behind }
+
+pub checked_refused : {A : Type 0} (words : List Word) (demand : A → List Wrong) (part : Judged A) (value : A)
+    (line : ℕ) (refusal : Option Wrong) (is_short : Bool) (found : Wrong) → demand value ≡ found ∷ []
+    → Ends words part value line refusal is_short
+    → Stops words (checked demand part) (fault_in line (lower_of refusal found))
+checked_refused {A = A} words demand part value line refusal is_short found refused h =
+    let shown : Judged A = judged (at_last (found ∷ []) part.marks) None in
+    let end : End words shown.marks.tokens line (Some (lower_of refusal found)) =
+      end_refused words part.marks.tokens line refusal found h.end in
+    subst (λ (whole : Judged A). Stops words whole (fault_in line (lower_of refusal found)))
+    (sym (ap (checked_by demand part.marks) h.known ∙ ap (kept_by part.marks value) refused))
+    record {
+      many = end_many words shown.marks.tokens line (Some (lower_of refusal found)) end;
+      first = λ more nothing. subst (λ faults. first_fault words (last_of faults shown.marks.tokens)
+          ≡ Some (fault_in line (lower_of refusal found))) (sym (nothing refl))
+          (subst (λ tokens. first_fault words tokens ≡ Some (fault_in line (lower_of refusal found)))
+          (sym (last_of_nothing shown.marks.tokens))
+          (end_faulty words shown.marks.tokens line (lower_of refusal found) end));
+    }
+
+short_of : (word : Word) (more : List Word) (behind : List Wrong) (tokens : List (List Wrong)) (faults : List Wrong)
+    → behind ≡ wrong WRONG_TYPE ∷ [] → 0 < length tokens
+    → first_fault (word ∷ more) (last_of faults ((behind ++ []) ∷ tokens))
+    ≡ Some (fault_in word.token.line (wrong WRONG_TYPE))
+short_of word more behind [] faults is some = absurd (omega (arith, some))
+short_of word more behind (first ∷ tokens) faults is some =
+    subst (λ shown. first_fault (word ∷ more) ((shown ++ []) ∷ last_of faults (first ∷ tokens))
+    ≡ Some (fault_in word.token.line (wrong WRONG_TYPE))) (sym is) refl
+
+-- a part behind which something is missing shows it at the word behind
+pub stops_short : {A B : Type 0} (words more : List Word) (part : Judged A) (value : A) (line : ℕ) (word : Word)
+    (next : Marks) (whole : Option B) → Ends words part value line None true → length next.tokens ≡ length more
+    → 0 < length more
+    → Stops (words ++ word ∷ more) (judged (followed part.marks (followed quiet next)) whole)
+    (fault_in word.token.line (wrong WRONG_TYPE))
+stops_short words more part value line word next whole h many some =
+    let rest : List (List Wrong) = (first_of [] next.behind next.tokens).tokens in
+    let rest_many : length rest ≡ length more = first_count [] next.behind next.tokens ∙ many in
+    record {
+      many = omega (arith, length-append part.marks.tokens ((part.marks.behind ++ []) ∷ rest),
+          end_many words part.marks.tokens line None h.end, rest_many, length-append words (word ∷ more));
+      first = λ faults nothing. behind_quiet_of words (word ∷ more) part.marks.tokens
+          ((part.marks.behind ++ []) ∷ rest) faults (fault_in word.token.line (wrong WRONG_TYPE))
+          (end_quiet words part.marks.tokens line h.end)
+          (short_of word more part.marks.behind rest faults h.behind (omega (arith, rest_many, some)));
     }
