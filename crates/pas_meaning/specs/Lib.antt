@@ -1,5 +1,6 @@
 pub mod Answers
 pub mod Files
+pub mod Fields
 pub mod Outcome
 pub mod FileSteps
 pub mod Store

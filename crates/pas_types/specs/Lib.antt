@@ -11,3 +11,4 @@ pub mod Declarations
 pub mod Routines
 pub mod Check
 pub mod CheckRows
+pub mod inner
