@@ -5,3 +5,6 @@ pub mod Nearest
 pub mod Regions
 pub mod Parse
 pub mod ParseRows
+pub mod Views
+pub mod ProgramViews
+pub mod inner
