@@ -195,18 +195,25 @@ in_front_of words more tokens faults behind shown (first ∷ next) fault many so
     (sym (last_of_append faults tokens (shown ++ first) next))
     (in_front words more tokens (last_of faults ((shown ++ first) ∷ next)) fault many h)
 
--- where checking stops in a part, it stops there whatever stands behind
+-- where a part shows a fault, checking stops there whatever stands behind
+pub stops_within : {B : Type 0} (words more : List Word) (part next : Marks) (value : Option B) (fault : Fault)
+    → length part.tokens ≡ length words → first_fault words part.tokens ≡ Some fault
+    → length next.tokens ≡ length more → 0 < length more
+    → Stops (words ++ more) (judged (followed part next) value) fault
+stops_within words more part next value fault part_many h many some = record {
+  many = length-append part.tokens (first_of part.behind next.behind next.tokens).tokens
+      ∙ (ap (λ n. n + length (first_of part.behind next.behind next.tokens).tokens) part_many
+      ∙ (ap (λ n. length words + n) (first_count part.behind next.behind next.tokens ∙ many)
+      ∙ sym (length-append words more)));
+  first = λ faults unknown. in_front_of words more part.tokens faults next.behind part.behind next.tokens fault
+      part_many (omega (arith, many, some)) h;
+}
+
 pub stops_in_front : {A B : Type 0} (words more : List Word) (part : Judged A) (next : Marks) (value : Option B)
     (fault : Fault) → Stops words part fault → length next.tokens ≡ length more → 0 < length more
     → Stops (words ++ more) (judged (followed part.marks next) value) fault
-stops_in_front words more part next value fault h many some = record {
-  many = length-append part.marks.tokens (first_of part.marks.behind next.behind next.tokens).tokens
-      ∙ (ap (λ n. n + length (first_of part.marks.behind next.behind next.tokens).tokens) h.many
-      ∙ (ap (λ n. length words + n) (first_count part.marks.behind next.behind next.tokens ∙ many)
-      ∙ sym (length-append words more)));
-  first = λ faults unknown. in_front_of words more part.marks.tokens faults next.behind part.marks.behind next.tokens
-      fault h.many (omega (arith, many, some)) (stops_first words part fault h);
-}
+stops_in_front words more part next value fault h many some =
+    stops_within words more part.marks next value fault h.many (stops_first words part fault h) many some
 
 behind_quiet_of : (words more : List Word) (tokens next : List (List Wrong)) (faults : List Wrong) (fault : Fault)
     → AreQuiet words tokens → first_fault more (last_of faults next) ≡ Some fault
@@ -358,3 +365,37 @@ stops_short words more part value line word next whole h many some =
           (end_quiet words part.marks.tokens line h.end)
           (short_of word more part.marks.behind rest faults h.behind (omega (arith, rest_many, some)));
     }
+
+-- a part that breaks a rule, and something behind it
+pub stops_refused : {A B : Type 0} (words more : List Word) (part : Judged A) (value : A) (line : ℕ) (refusal : Wrong)
+    (is_short : Bool) (next : Marks) (whole : Option B) → Ends words part value line (Some refusal) is_short
+    → length next.tokens ≡ length more → 0 < length more
+    → Stops (words ++ more) (judged (followed part.marks next) whole) (fault_in line refusal)
+stops_refused words more part value line refusal is_short next whole h many some =
+    stops_within words more part.marks next whole (fault_in line refusal)
+    (end_many words part.marks.tokens line (Some refusal) h.end)
+    (end_faulty words part.marks.tokens line refusal h.end) many some
+
+-- a part, and the word that closes a larger one
+abbrev pub refusal_behind : Bool → Option Wrong
+refusal_behind true = Some (wrong WRONG_TYPE)
+refusal_behind false = None
+
+pub ends_closed : {A B : Type 0} (words : List Word) (part : Judged A) (value : A) (line : ℕ) (is_short : Bool)
+    (word : Word) (known : Option B) (whole : B) → Ends words part value line None is_short → known ≡ Some whole
+    → Ends (words ++ word ∷ []) (judged (joined (part.marks ∷ quiet ∷ [])) known) whole word.token.line
+    (refusal_behind is_short) false
+ends_closed words part value line true word known whole h is = record {
+  known = is;
+  end = end_append words (word ∷ []) part.marks.tokens ((part.marks.behind ++ []) ∷ []) word.token.line
+      (refusal_behind true) (end_quiet words part.marks.tokens line h.end)
+      (refl, ap (λ (faults : List Wrong). lowest_of (faults ++ [])) h.behind);
+  behind = refl;
+}
+ends_closed words part value line false word known whole h is = record {
+  known = is;
+  end = end_append words (word ∷ []) part.marks.tokens ((part.marks.behind ++ []) ∷ []) word.token.line
+      (refusal_behind false) (end_quiet words part.marks.tokens line h.end)
+      (refl, ap (λ (faults : List Wrong). lowest_of (faults ++ [])) h.behind);
+  behind = refl;
+}
