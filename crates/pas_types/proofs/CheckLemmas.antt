@@ -72,7 +72,7 @@ program_many program =
     let ended : Marks = joined (shows faults ∷ quiet ∷ quiet ∷ []) in
     let at_list : List Word = statements_words 1 program.body.list in
     let compound : AsMany (compound_words program.body ++ last)
-        (joined (quiet ∷ list.marks ∷ shows faults ∷ quiet ∷ quiet ∷ [])) =
+    (joined (quiet ∷ list.marks ∷ shows faults ∷ quiet ∷ quiet ∷ [])) =
     next_word (at 1 k.Begin program.body.begin) [] (followed list.marks ended)
     (grouped at_list (at 1 k.End program.body.end ∷ []) last (followed list.marks ended)
     (and_then list.marks ended

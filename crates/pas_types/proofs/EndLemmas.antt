@@ -1,7 +1,8 @@
 -- How parts end, one behind another, and where they stop.
-use Rattle.std.proofs.Common.{◌≡◌, refl, sym, ap, subst, ◌∙◌, ℕ, suc, ◌+◌, ◌<◌, arith, Bool, true, false, List, [], ◌∷◌, ◌++◌}
-use Rattle.std.proofs.Common.{length, map, Option, Some, None}
-use Rattle.std.specs.Prelude.{⊤, nat_lt, fold, if◌then◌else◌, option_map}
+use Rattle.std.proofs.Common.{◌≡◌, refl, sym, ap, subst, ◌∙◌, ℕ, suc, ◌+◌, ◌<◌, arith, Bool, true, false, List, []}
+use Rattle.std.proofs.Common.{◌∷◌, ◌++◌}
+use Rattle.std.proofs.Common.{length, Option, Some, None}
+use Rattle.std.specs.Prelude.{nat_lt, if◌then◌else◌, option_map}
 use Rattle.std.proofs.lemmas.List.{length-append, append-nil, append_assoc}
 use Rattle.std.proofs.lemmas.List.Sums.{fold-append}
 use Rattle.std.proofs.lemmas.Option.{none-some}
@@ -10,11 +11,11 @@ use Rattle.wb_base.specs.declared.faults.TheConstants.{WRONG_TYPE}
 use Rattle.pas_tokens.specs.Cutting.{Wrong, wrong}
 use Rattle.pas_tokens.specs.Tokens.{fault_in}
 use Rattle.pas_syntax.specs.Words.{Word}
-use Rattle.pas_types.specs.Marks.{Marks, no_token, shows, quiet, first_of, at_first, last_of, at_last, followed, joined}
+use Rattle.pas_types.specs.Marks.{Marks, quiet, first_of, last_of, at_last, followed, joined}
 use Rattle.pas_types.specs.Marks.{Judged, judged, noted, checked, checked_by, kept_by, faults_if, lowest}
 use Rattle.pas_types.specs.Marks.{first_fault}
 use Rattle.pas_types.proofs.AsMany.{first_count, last_count}
-use Rattle.pas_types.specs.inner.Ends.{AreQuiet, lowest_of, lower_of, End, shown_behind, Ends, Stops}
+use Rattle.pas_types.specs.inner.Ends.{AreQuiet, lowest_of, lower_of, End, Ends, Stops}
 
 -- quiet words in front change nothing
 pub behind_quiet : (words more : List Word) (tokens next : List (List Wrong)) → AreQuiet words tokens
@@ -327,7 +328,7 @@ pub checked_refused : {A : Type 0} (words : List Word) (demand : A → List Wron
 checked_refused {A = A} words demand part value line refusal is_short found refused h =
     let shown : Judged A = judged (at_last (found ∷ []) part.marks) None in
     let end : End words shown.marks.tokens line (Some (lower_of refusal found)) =
-      end_refused words part.marks.tokens line refusal found h.end in
+    end_refused words part.marks.tokens line refusal found h.end in
     subst (λ (whole : Judged A). Stops words whole (fault_in line (lower_of refusal found)))
     (sym (ap (checked_by demand part.marks) h.known ∙ ap (kept_by part.marks value) refused))
     record {
@@ -358,8 +359,13 @@ stops_short words more part value line word next whole h many some =
     let rest : List (List Wrong) = (first_of [] next.behind next.tokens).tokens in
     let rest_many : length rest ≡ length more = first_count [] next.behind next.tokens ∙ many in
     record {
-      many = omega (arith, length-append part.marks.tokens ((part.marks.behind ++ []) ∷ rest),
-          end_many words part.marks.tokens line None h.end, rest_many, length-append words (word ∷ more));
+      many = omega (
+        arith,
+        length-append part.marks.tokens ((part.marks.behind ++ []) ∷ rest),
+        end_many words part.marks.tokens line None h.end,
+        rest_many,
+        length-append words (word ∷ more),
+      );
       first = λ faults nothing. behind_quiet_of words (word ∷ more) part.marks.tokens
           ((part.marks.behind ++ []) ∷ rest) faults (fault_in word.token.line (wrong WRONG_TYPE))
           (end_quiet words part.marks.tokens line h.end)
