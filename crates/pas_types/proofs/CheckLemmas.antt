@@ -92,7 +92,7 @@ program_many program =
     program.variables)
     (and_then routines.marks _ (routines_many variables.outer program.routines) compound))))))))
 
--- a program has one first fault, or none, so it has no meaning where it has a fault
-pub either : (program : Program) (meaning : TypedProgram) (fault : Fault) → Means program meaning
+-- no program has both a meaning and a fault
+pub not_both : (program : Program) (meaning : TypedProgram) (fault : Fault) → Means program meaning
     → IsFaultOf program fault → ⊥
-either program meaning fault means is = none-some fault (sym means.0 ∙ is)
+not_both program meaning fault means is = none-some fault (sym means.0 ∙ is)

@@ -1,6 +1,6 @@
 -- What checking finds of parts that are made of others: one behind a word, two with a word between them, one between
 -- two words.
-use Rattle.std.proofs.Common.{◌≡◌, refl, sym, ap, subst, ◌∙◌, ℕ, suc, ◌+◌, ◌<◌, arith, Bool, true, false, List, [], ◌∷◌}
+use Rattle.std.proofs.Common.{◌≡◌, refl, sym, ap, subst, ◌∙◌, ℕ, ◌+◌, ◌<◌, arith, Bool, true, false, List, [], ◌∷◌}
 use Rattle.std.proofs.Common.{◌++◌, length, Option, Some, None}
 use Rattle.std.proofs.lemmas.List.{append-nil}
 use Rattle.wb_base.specs.declared.faults.Fault.{Fault}
@@ -9,7 +9,7 @@ use Rattle.pas_tokens.specs.Cutting.{Wrong, wrong}
 use Rattle.pas_tokens.specs.Tokens.{fault_in}
 use Rattle.pas_syntax.specs.Words.{Word}
 use Rattle.pas_types.specs.Marks.{Marks, no_token, quiet, followed, joined, Judged, judged, known, both}
-use Rattle.pas_types.specs.inner.Ends.{AreQuiet, Ends, Stops}
+use Rattle.pas_types.specs.inner.Ends.{Ends, Stops}
 use Rattle.pas_types.proofs.AsMany.{AsMany, all, behind_word}
 use Rattle.pas_types.proofs.EndLemmas.{end_quiet, stops_in_front, stops_behind, stops_refused, stops_short, ends_behind}
 use Rattle.pas_types.proofs.EndLemmas.{ends_closed, refusal_behind}
@@ -92,3 +92,44 @@ module _ {A B C : Type 0} (words more : List Word) (word : Word) (make : A → B
       (end_quiet words first.marks.tokens line h.end) h.behind
       (ends_behind_word more word second item second.value item last refusal is_short k k.known)
       (some_of_both make first.value second.value value item h.known k.known)
+
+-- a part between two words
+abbrev pub enclosed : {A B : Type 0} → (A → B) → Judged A → Judged B
+enclosed make part = judged (joined (quiet ∷ part.marks ∷ quiet ∷ [])) (known make part.value)
+
+none_of_known : {A B : Type 0} (make : A → B) (value : Option A) → value ≡ None → known make value ≡ None
+none_of_known make value none = ap (known make) none
+
+some_of_known : {A B : Type 0} (make : A → B) (value : Option A) (found : A) → value ≡ Some found
+    → known make value ≡ Some (make found)
+some_of_known make value found is = ap (known make) is
+
+module _ {A B : Type 0} (words : List Word) (opened closed : Word) (make : A → B) (part : Judged A) where
+  abbrev closing : Judged A
+  closing = judged (joined (part.marks ∷ quiet ∷ [])) part.value
+
+  pub enclosed_stops : (fault : Fault) → Stops words part fault
+      → Stops (opened ∷ (words ++ closed ∷ [])) (enclosed make part) fault
+  enclosed_stops fault h =
+      stops_behind (opened ∷ []) (words ++ closed ∷ []) quiet closing (known make part.value) fault (refl, tt) refl
+      (stops_in_front words (closed ∷ []) part (joined (quiet ∷ [])) part.value fault h refl (omega arith))
+      (none_of_known make part.value)
+
+  pub enclosed_refused : (value : A) (line : ℕ) (refusal : Wrong) (is_short : Bool)
+      → Ends words part value line (Some refusal) is_short
+      → Stops (opened ∷ (words ++ closed ∷ [])) (enclosed make part) (fault_in line refusal)
+  enclosed_refused value line refusal is_short h =
+      stops_behind (opened ∷ []) (words ++ closed ∷ []) quiet closing (known make part.value) (fault_in line refusal)
+      (refl, tt) refl
+      (stops_refused words (closed ∷ []) part value line refusal is_short (joined (quiet ∷ [])) part.value h refl
+      (omega arith))
+      (none_of_known make part.value)
+
+  pub enclosed_ends : (value : A) (line : ℕ) (is_short : Bool) → Ends words part value line None is_short
+      → Ends (opened ∷ (words ++ closed ∷ [])) (enclosed make part) (make value) closed.token.line
+      (refusal_behind is_short) false
+  enclosed_ends value line is_short h =
+      ends_behind (opened ∷ []) (words ++ closed ∷ []) quiet closing value (known make part.value) (make value)
+      closed.token.line (refusal_behind is_short) false (refl, tt) refl
+      (ends_closed words part value line is_short closed part.value value h h.known)
+      (some_of_known make part.value value h.known)
