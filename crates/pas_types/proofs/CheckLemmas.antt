@@ -72,7 +72,7 @@ program_many program =
     let ended : Marks = joined (shows faults ∷ quiet ∷ quiet ∷ []) in
     let at_list : List Word = statements_words 1 program.body.list in
     let compound : AsMany (compound_words program.body ++ last)
-        (joined (quiet ∷ list.marks ∷ shows faults ∷ quiet ∷ quiet ∷ [])) =
+    (joined (quiet ∷ list.marks ∷ shows faults ∷ quiet ∷ quiet ∷ [])) =
     next_word (at 1 k.Begin program.body.begin) [] (followed list.marks ended)
     (grouped at_list (at 1 k.End program.body.end ∷ []) last (followed list.marks ended)
     (and_then list.marks ended
@@ -92,7 +92,7 @@ program_many program =
     program.variables)
     (and_then routines.marks _ (routines_many variables.outer program.routines) compound))))))))
 
--- a program has one first fault, or none, so it has no meaning where it has a fault
-pub either : (program : Program) (meaning : TypedProgram) (fault : Fault) → Means program meaning
+-- no program has both a meaning and a fault
+pub not_both : (program : Program) (meaning : TypedProgram) (fault : Fault) → Means program meaning
     → IsFaultOf program fault → ⊥
-either program meaning fault means is = none-some fault (sym means.0 ∙ is)
+not_both program meaning fault means is = none-some fault (sym means.0 ∙ is)

@@ -1,7 +1,8 @@
 -- How parts end, one behind another, and where they stop.
-use Rattle.std.proofs.Common.{◌≡◌, refl, sym, ap, subst, ◌∙◌, ℕ, suc, ◌+◌, ◌<◌, arith, Bool, true, false, List, [], ◌∷◌, ◌++◌}
-use Rattle.std.proofs.Common.{length, map, Option, Some, None}
-use Rattle.std.specs.Prelude.{⊤, nat_lt, fold, if◌then◌else◌, option_map}
+use Rattle.std.proofs.Common.{◌≡◌, refl, sym, ap, subst, ◌∙◌, ℕ, suc, ◌+◌, ◌<◌, arith, Bool, true, false, List, []}
+use Rattle.std.proofs.Common.{◌∷◌, ◌++◌}
+use Rattle.std.proofs.Common.{length, Option, Some, None}
+use Rattle.std.specs.Prelude.{nat_lt, if◌then◌else◌, option_map}
 use Rattle.std.proofs.lemmas.List.{length-append, append-nil, append_assoc}
 use Rattle.std.proofs.lemmas.List.Sums.{fold-append}
 use Rattle.std.proofs.lemmas.Option.{none-some}
@@ -10,11 +11,11 @@ use Rattle.wb_base.specs.declared.faults.TheConstants.{WRONG_TYPE}
 use Rattle.pas_tokens.specs.Cutting.{Wrong, wrong}
 use Rattle.pas_tokens.specs.Tokens.{fault_in}
 use Rattle.pas_syntax.specs.Words.{Word}
-use Rattle.pas_types.specs.Marks.{Marks, no_token, shows, quiet, first_of, at_first, last_of, at_last, followed, joined}
+use Rattle.pas_types.specs.Marks.{Marks, quiet, first_of, last_of, at_last, followed, joined}
 use Rattle.pas_types.specs.Marks.{Judged, judged, noted, checked, checked_by, kept_by, faults_if, lowest}
 use Rattle.pas_types.specs.Marks.{first_fault}
 use Rattle.pas_types.proofs.AsMany.{first_count, last_count}
-use Rattle.pas_types.specs.inner.Ends.{AreQuiet, lowest_of, lower_of, End, shown_behind, Ends, Stops}
+use Rattle.pas_types.specs.inner.Ends.{AreQuiet, lowest_of, lower_of, End, Ends, Stops}
 
 -- quiet words in front change nothing
 pub behind_quiet : (words more : List Word) (tokens next : List (List Wrong)) → AreQuiet words tokens
@@ -195,18 +196,25 @@ in_front_of words more tokens faults behind shown (first ∷ next) fault many so
     (sym (last_of_append faults tokens (shown ++ first) next))
     (in_front words more tokens (last_of faults ((shown ++ first) ∷ next)) fault many h)
 
--- where checking stops in a part, it stops there whatever stands behind
+-- where a part shows a fault, checking stops there whatever stands behind
+pub stops_within : {B : Type 0} (words more : List Word) (part next : Marks) (value : Option B) (fault : Fault)
+    → length part.tokens ≡ length words → first_fault words part.tokens ≡ Some fault
+    → length next.tokens ≡ length more → 0 < length more
+    → Stops (words ++ more) (judged (followed part next) value) fault
+stops_within words more part next value fault part_many h many some = record {
+  many = length-append part.tokens (first_of part.behind next.behind next.tokens).tokens
+      ∙ (ap (λ n. n + length (first_of part.behind next.behind next.tokens).tokens) part_many
+      ∙ (ap (λ n. length words + n) (first_count part.behind next.behind next.tokens ∙ many)
+      ∙ sym (length-append words more)));
+  first = λ faults unknown. in_front_of words more part.tokens faults next.behind part.behind next.tokens fault
+      part_many (omega (arith, many, some)) h;
+}
+
 pub stops_in_front : {A B : Type 0} (words more : List Word) (part : Judged A) (next : Marks) (value : Option B)
     (fault : Fault) → Stops words part fault → length next.tokens ≡ length more → 0 < length more
     → Stops (words ++ more) (judged (followed part.marks next) value) fault
-stops_in_front words more part next value fault h many some = record {
-  many = length-append part.marks.tokens (first_of part.marks.behind next.behind next.tokens).tokens
-      ∙ (ap (λ n. n + length (first_of part.marks.behind next.behind next.tokens).tokens) h.many
-      ∙ (ap (λ n. length words + n) (first_count part.marks.behind next.behind next.tokens ∙ many)
-      ∙ sym (length-append words more)));
-  first = λ faults unknown. in_front_of words more part.marks.tokens faults next.behind part.marks.behind next.tokens
-      fault h.many (omega (arith, many, some)) (stops_first words part fault h);
-}
+stops_in_front words more part next value fault h many some =
+    stops_within words more part.marks next value fault h.many (stops_first words part fault h) many some
 
 behind_quiet_of : (words more : List Word) (tokens next : List (List Wrong)) (faults : List Wrong) (fault : Fault)
     → AreQuiet words tokens → first_fault more (last_of faults next) ≡ Some fault
@@ -320,7 +328,7 @@ pub checked_refused : {A : Type 0} (words : List Word) (demand : A → List Wron
 checked_refused {A = A} words demand part value line refusal is_short found refused h =
     let shown : Judged A = judged (at_last (found ∷ []) part.marks) None in
     let end : End words shown.marks.tokens line (Some (lower_of refusal found)) =
-      end_refused words part.marks.tokens line refusal found h.end in
+    end_refused words part.marks.tokens line refusal found h.end in
     subst (λ (whole : Judged A). Stops words whole (fault_in line (lower_of refusal found)))
     (sym (ap (checked_by demand part.marks) h.known ∙ ap (kept_by part.marks value) refused))
     record {
@@ -351,10 +359,49 @@ stops_short words more part value line word next whole h many some =
     let rest : List (List Wrong) = (first_of [] next.behind next.tokens).tokens in
     let rest_many : length rest ≡ length more = first_count [] next.behind next.tokens ∙ many in
     record {
-      many = omega (arith, length-append part.marks.tokens ((part.marks.behind ++ []) ∷ rest),
-          end_many words part.marks.tokens line None h.end, rest_many, length-append words (word ∷ more));
+      many = omega (
+        arith,
+        length-append part.marks.tokens ((part.marks.behind ++ []) ∷ rest),
+        end_many words part.marks.tokens line None h.end,
+        rest_many,
+        length-append words (word ∷ more),
+      );
       first = λ faults nothing. behind_quiet_of words (word ∷ more) part.marks.tokens
           ((part.marks.behind ++ []) ∷ rest) faults (fault_in word.token.line (wrong WRONG_TYPE))
           (end_quiet words part.marks.tokens line h.end)
           (short_of word more part.marks.behind rest faults h.behind (omega (arith, rest_many, some)));
     }
+
+-- a part that breaks a rule, and something behind it
+pub stops_refused : {A B : Type 0} (words more : List Word) (part : Judged A) (value : A) (line : ℕ) (refusal : Wrong)
+    (is_short : Bool) (next : Marks) (whole : Option B) → Ends words part value line (Some refusal) is_short
+    → length next.tokens ≡ length more → 0 < length more
+    → Stops (words ++ more) (judged (followed part.marks next) whole) (fault_in line refusal)
+stops_refused words more part value line refusal is_short next whole h many some =
+    stops_within words more part.marks next whole (fault_in line refusal)
+    (end_many words part.marks.tokens line (Some refusal) h.end)
+    (end_faulty words part.marks.tokens line refusal h.end) many some
+
+-- a part, and the word that closes a larger one
+abbrev pub refusal_behind : Bool → Option Wrong
+refusal_behind true = Some (wrong WRONG_TYPE)
+refusal_behind false = None
+
+pub ends_closed : {A B : Type 0} (words : List Word) (part : Judged A) (value : A) (line : ℕ) (is_short : Bool)
+    (word : Word) (known : Option B) (whole : B) → Ends words part value line None is_short → known ≡ Some whole
+    → Ends (words ++ word ∷ []) (judged (joined (part.marks ∷ quiet ∷ [])) known) whole word.token.line
+    (refusal_behind is_short) false
+ends_closed words part value line true word known whole h is = record {
+  known = is;
+  end = end_append words (word ∷ []) part.marks.tokens ((part.marks.behind ++ []) ∷ []) word.token.line
+      (refusal_behind true) (end_quiet words part.marks.tokens line h.end)
+      (refl, ap (λ (faults : List Wrong). lowest_of (faults ++ [])) h.behind);
+  behind = refl;
+}
+ends_closed words part value line false word known whole h is = record {
+  known = is;
+  end = end_append words (word ∷ []) part.marks.tokens ((part.marks.behind ++ []) ∷ []) word.token.line
+      (refusal_behind false) (end_quiet words part.marks.tokens line h.end)
+      (refl, ap (λ (faults : List Wrong). lowest_of (faults ++ [])) h.behind);
+  behind = refl;
+}

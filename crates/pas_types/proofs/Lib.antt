@@ -7,3 +7,4 @@ pub mod DeclarationsAsMany
 pub mod RoutinesAsMany
 pub mod CheckLemmas
 pub mod EndLemmas
+pub mod PartLemmas

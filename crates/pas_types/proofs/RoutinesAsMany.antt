@@ -7,8 +7,8 @@ use Rattle.wb_base.specs.declared.faults.TheConstants.{DUPLICATE_NAME, TOO_LARGE
 use Rattle.pas_tokens.specs.declared.kinds.Kind.TheVariants as k
 use Rattle.pas_tokens.specs.Cutting.{Wrong, wrong, spelling}
 use Rattle.pas_syntax.specs.Tree as tree
-use Rattle.pas_syntax.specs.Tree.{Ident, Behind, Idents, TypeName, Labels, VariableRow, Rows, Parameter, Parameters}
-use Rattle.pas_syntax.specs.Tree.{Compound, Routine}
+use Rattle.pas_syntax.specs.Tree.{Behind, TypeName, Parameter, Parameters}
+use Rattle.pas_syntax.specs.Tree.{Routine}
 use Rattle.pas_syntax.specs.Words.{Word, at, says, name_at, words_if, type_name_words, parameter_words}
 use Rattle.pas_syntax.specs.Words.{parameters_words, result_words, heading_words, compound_words, body_words}
 use Rattle.pas_syntax.specs.Words.{routine_words, labels_words, rows_words}

@@ -10,13 +10,13 @@ use Rattle.pas_syntax.specs.Tree as tree
 use Rattle.pas_syntax.specs.Tree.{Behind, Separated, Constant, Plain, Statement, Statements, Elements, Others}
 use Rattle.pas_syntax.specs.Words.{Word, at, name_at, number_at, separated, expr_words, variable_words, constant_words}
 use Rattle.pas_syntax.specs.Words.{plain_words, statement_words, statements_words, elements_words, others_words}
-use Rattle.pas_syntax.specs.Words.{others_word, way_kind, maybe}
+use Rattle.pas_syntax.specs.Words.{others_word, way_kind}
 use Rattle.pas_syntax.specs.Words as words
 use Rattle.pas_types.specs.declared.limits.TheConstants.{GREATEST_LABEL}
 use Rattle.pas_types.specs.Marks.{Marks, no_token, shows, quiet, joined, Judged, judged, checked, means}
 use Rattle.pas_types.specs.Marks.{refuses}
 use Rattle.pas_types.specs.Types.{Base, boolean, PasType, Table}
-use Rattle.pas_types.specs.Typed.{Slot, Value, Place, Arms}
+use Rattle.pas_types.specs.Typed.{Slot, Value}
 use Rattle.pas_types.specs.Typed as typed
 use Rattle.pas_types.specs.Scopes.{Outer, Inner, Scopes, Entity, constant, variable, routine, function, file_test}
 use Rattle.pas_types.specs.Scopes.{file_step, procedure, unclear, type, entity_of}

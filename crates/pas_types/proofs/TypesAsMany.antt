@@ -9,7 +9,7 @@ use Rattle.pas_tokens.specs.Cutting.{Wrong, wrong}
 use Rattle.pas_syntax.specs.declared.operators.Sign.{Sign}
 use Rattle.pas_syntax.specs.Parse.{left_out}
 use Rattle.pas_syntax.specs.Tree as tree
-use Rattle.pas_syntax.specs.Tree.{Ident, Lined, Behind, Separated, Idents, Constant, Simple, TypeForm, Fields}
+use Rattle.pas_syntax.specs.Tree.{Ident, Lined, Behind, Separated, Constant, Simple, TypeForm, Fields}
 use Rattle.pas_syntax.specs.Tree.{LeftOutType}
 use Rattle.pas_syntax.specs.Words.{Word, at, name_at, number_at, text_at, words_if, separated}
 use Rattle.pas_syntax.specs.Words.{sign_kind, constant_sign, constant_words, left_out_type_words, simple_words}

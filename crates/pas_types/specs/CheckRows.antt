@@ -8,8 +8,8 @@ use Rattle.pas_tokens.specs.Cutting.{wrong}
 use Rattle.pas_tokens.specs.Tokens.{fault_in}
 use Rattle.pas_syntax.specs.declared.operators.Adding.TheVariants as adding
 use Rattle.pas_syntax.specs.Tree as tree
-use Rattle.pas_syntax.specs.Tree.{Ident, Numeral, Lined, Separated, Idents, Constant, TypeForm, Expr, Factor, Plain}
-use Rattle.pas_syntax.specs.Tree.{Statement, Statements, Compound, Rows, VariableRow, Routine, Program}
+use Rattle.pas_syntax.specs.Tree.{Ident, Numeral, Lined, Separated, TypeForm, Expr, Factor, Plain}
+use Rattle.pas_syntax.specs.Tree.{Statements, Compound, Rows, VariableRow, Program}
 use Rattle.pas_syntax.specs.Parse.{left_out}
 use Rattle.pas_syntax.specs.Words.{program_words}
 use Rattle.pas_types.specs.Types as types

@@ -6,7 +6,7 @@ use Rattle.wb_base.specs.declared.faults.TheConstants.{DUPLICATE_NAME, WRONG_TYP
 use Rattle.wb_base.specs.declared.faults.TheConstants.{RESULT_NEVER_ASSIGNED}
 use Rattle.pas_tokens.specs.Cutting.{Wrong, wrong}
 use Rattle.pas_syntax.specs.Tree as tree
-use Rattle.pas_syntax.specs.Tree.{Ident, Behind, Idents, TypeName, Labels, VariableRow, Rows, Parameter, Parameters}
+use Rattle.pas_syntax.specs.Tree.{Ident, Behind, TypeName, Labels, VariableRow, Rows, Parameter, Parameters}
 use Rattle.pas_syntax.specs.Tree.{Compound, Routine}
 use Rattle.pas_types.specs.declared.limits.TheConstants.{ROUTINE_LIMIT}
 use Rattle.pas_types.specs.Marks.{Marks, no_token, quiet, shows, at_first, joined, unless, Judged, judged, known, both}

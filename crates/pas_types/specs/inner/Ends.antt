@@ -5,7 +5,7 @@ use Rattle.wb_base.specs.declared.faults.Fault.{Fault}
 use Rattle.wb_base.specs.declared.faults.TheConstants.{WRONG_TYPE}
 use Rattle.pas_tokens.specs.Cutting.{Wrong, wrong}
 use Rattle.pas_syntax.specs.Words.{Word}
-use Rattle.pas_types.specs.Marks.{Marks, last_of, Judged, lowest, first_fault}
+use Rattle.pas_types.specs.Marks.{last_of, Judged, lowest, first_fault}
 
 -- words that show no fault
 abbrev pub AreQuiet : List Word → List (List Wrong) → Type 0
