@@ -61,8 +61,8 @@ module _ (table : Table) where
   goes_store type (run.part slot path) datum =
       goes_changed (λ before. store.put_at table type (store.along (store.home_of slot before) path) datum before)
   goes_store type (run.window file of_component) datum =
-      goes_bind (goes_answered (then_answer (store.fits table of_component datum) store.number_of)) (λ value.
-      goes_on_file file _ (λ number. goes_set number (nat_abs value)))
+      goes_bind (goes_answered (then_answer (store.fits table of_component datum) (byte_of OUT_OF_RANGE))) (λ byte.
+      goes_on_file file _ (λ number. goes_set number byte))
 
 module _ (limit : Option ℕ) (program : TypedProgram) (below : Doings)
     (goes_below : (from : Entry) (s : Statement) → Goes (below from s)) where
@@ -87,7 +87,7 @@ module _ (limit : Option ℕ) (program : TypedProgram) (below : Doings)
         goes_operand number_of (goes_value argument) (λ found. goes_bind (goes_answered (function_at function found))
         (λ result. goes_pure (holds result)))
     goes_value (typed.tested test place) =
-        goes_file place (λ file. goes_bind (goes_ask (run.told_by file (run.test_of test)))
+        goes_file place (λ file. goes_bind (goes_ask (run.of_file file (run.test_of test)))
         (λ found. goes_pure (run.boolean found)))
     goes_value (typed.parenthesized inner) = goes_value inner
     goes_value (typed.signed sign argument) =

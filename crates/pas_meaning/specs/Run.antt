@@ -96,8 +96,8 @@ file_of slot store world =
     then_answer (number_at (home_of slot store) store) (λ value. file_named (nat_abs value) world)
 
 -- what a question to a file answers, and a step of a file
-abbrev pub told_by : {A : Type 0} → Slot → (File → Answer A) → Store → World → Answer A
-told_by file question store world = then_answer (file_of file store world) (λ number. question (file_at number world))
+abbrev pub of_file : {A : Type 0} → Slot → (File → Answer A) → Store → World → Answer A
+of_file file question store world = then_answer (file_of file store world) (λ number. question (file_at number world))
 
 abbrev pub on_file : Slot → (ℕ → Doing Store (Unit {0})) → Doing Store (Unit {0})
 on_file file step = do
@@ -113,15 +113,15 @@ module _ (table : Table) where
   abbrev pub read_at : PasType → Spot → Store → World → Answer Datum
   read_at type (part slot path) store world = fetched_as table type (along (home_of slot store) path) store
   read_at type (window file of_component) store world =
-      then_answer (told_by file files.buffer_read store world) (component of_component)
+      then_answer (of_file file files.buffer_read store world) (component of_component)
 
   -- v := what is given, where v is this place of a type
   abbrev pub store_at : PasType → Spot → Datum → Doing Store (Unit {0})
   store_at type (part slot path) datum =
       changed (λ store. put_at table type (along (home_of slot store) path) datum store)
   store_at type (window file of_component) datum = do
-    value ← answered (then_answer (fits table of_component datum) number_of)
-    on_file file (λ number. change_file number (files.buffer_set (nat_abs value)))
+    byte ← answered (then_answer (fits table of_component datum) (byte_of OUT_OF_RANGE))
+    on_file file (λ number. change_file number (files.buffer_set byte))
 
 -- calls
 
@@ -222,7 +222,7 @@ module _ (limit : Option ℕ) (program : TypedProgram) (below : Doings) where
       pure (holds result)
     value (typed.tested test place) = do
       file ← answered (file_variable place)
-      found ← ask (told_by file (test_of test))
+      found ← ask (of_file file (test_of test))
       pure (boolean found)
     value (typed.parenthesized inner) = value inner
     value (typed.signed sign argument) = do
