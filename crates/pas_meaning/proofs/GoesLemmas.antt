@@ -1,6 +1,6 @@
 -- Every statement goes on: the laws of a run, over the whole language.
 use Rattle.std.proofs.Common.{ℕ, zero, suc, List, [], ◌∷◌, Option, Some, None, true, false}
-use Rattle.std.specs.Prelude.{ℤ, pos, nat_abs, length, not}
+use Rattle.std.specs.Prelude.{ℤ, pos, length, not}
 use Rattle.std.specs.List.{list_any}
 use Rattle.pas_syntax.specs.declared.operators.Multiplying.TheVariants as multiplying
 use Rattle.pas_syntax.specs.declared.operators.Adding.TheVariants as adding
