@@ -150,17 +150,17 @@ index_behind_right_side = record (program_of (list_of (
     (typed.call 0 (whole integer) (typed.reference (typed.slot slot_i) typed.nothing))
     ∷ written (digit (typed.read (element_at (number 1)))) None
     ∷ written (digit (typed.read (element_at (number 2)))) None ∷ []))) {
-  types = record { structure = array one_to_two (whole integer); cells = 2 } ∷ [];
-  globals = output ∷ i ∷ a ∷ [];
-  headings = record { name = codes "f"; result = Some (whole integer); parameters = x ∷ [] } ∷ [];
-  bodies = record {
-    routine = 0;
-    variables = x ∷ [];
-    labels = [];
-    statements = list_of (typed.assigns the_x (typed.addition (typed.read the_x) adding.Plus (number 1))
-        ∷ typed.sets_result 1 (whole integer) (number 7) ∷ []);
-  } ∷ [];
-}
+      types = record { structure = array one_to_two (whole integer); cells = 2 } ∷ [];
+      globals = output ∷ i ∷ a ∷ [];
+      headings = record { name = codes "f"; result = Some (whole integer); parameters = x ∷ [] } ∷ [];
+      bodies = record {
+        routine = 0;
+        variables = x ∷ [];
+        labels = [];
+        statements = list_of (typed.assigns the_x (typed.addition (typed.read the_x) adding.Plus (number 1))
+            ∷ typed.sets_result 1 (whole integer) (number 7) ∷ []);
+      } ∷ [];
+    }
 
 pub index_is_evaluated_last : shown (pascal_trial index_behind_right_side ([] ∷ []) 1)
     ≡ record { ending = ended (halted 0); bytes = codes "07" ∷ [] }
@@ -187,9 +187,9 @@ abbrev copying : TypedProgram
 copying = record (program_of (only (typed.while (typed.negated (typed.tested typed.eof the_input)) (list_of (
     typed.reads the_input (the_c ∷ [])
     ∷ typed.writes the_second_output (typed.char_item (typed.read the_c) None ∷ []) ∷ []))))) {
-  globals = input ∷ output ∷ c ∷ [];
-  files = 0 ∷ 1 ∷ [];
-}
+      globals = input ∷ output ∷ c ∷ [];
+      files = 0 ∷ 1 ∷ [];
+    }
 
 pub text_is_copied : shown (pascal_trial copying (codes "ab" ∷ [] ∷ []) 4)
     ≡ record { ending = ended (halted 0); bytes = codes "ab" ∷ codes "ab " ∷ [] }
