@@ -22,7 +22,7 @@ use Rattle.pas_meaning.specs.Operands.{operand, element, byte_of, truth_of}
 use Rattle.pas_meaning.specs.Run as run
 use Rattle.pas_meaning.specs.Run.{Flow, Entry, Doings, Argument}
 use Rattle.pas_meaning.specs.Laws.{world_of, Goes, Same}
-use Rattle.pas_meaning.proofs.OnwardLemmas.{goes_ask, goes_change, goes_begin, goes_answered}
+use Rattle.pas_meaning.proofs.OnwardLemmas.{goes_change, goes_begin, goes_answered}
 use Rattle.pas_meaning.proofs.OnwardLemmas.{goes_then, goes_step, goes_bind}
 use Rattle.pas_meaning.proofs.GoesLemmas as goes
 
@@ -212,7 +212,8 @@ module _ (limit : Option ℕ) (program : TypedProgram) (b b' : Doings)
   same_read_item : (type : PasType) (file : Slot) (place : Place)
       → Same n (run.read_item limit program b type file place) (run.read_item limit program b' type file place)
   same_read_item type file place =
-      same_behind (goes_ask (run.read_at program.types type (run.window file type))) (λ datum.
+      same_bind (goes.goes_value limit program b on (typed.read (run.buffer_of file type)))
+      (same_value (typed.read (run.buffer_of file type))) (λ datum.
       same_then (goes.goes_assigned limit program b on place datum) (same_assigned place datum)
       (same_step_on typed.get file))
 
@@ -251,8 +252,8 @@ module _ (limit : Option ℕ) (program : TypedProgram) (b b' : Doings)
       → Same n (run.write_byte limit program b type file item) (run.write_byte limit program b' type file item)
   same_byte type file item =
       same_bind (goes.goes_value limit program b on item) (same_value item) (λ datum.
-      same_then (goes.goes_store program.types type (run.window file type) datum) (same_self n _)
-      (same_step_on typed.put file))
+      same_then (goes.goes_assigned limit program b on (run.buffer_of file type) datum)
+      (same_assigned (run.buffer_of file type) datum) (same_step_on typed.put file))
 
   same_bytes : (type : PasType) (file : Slot) (items : List Value)
       → Same n (run.write_bytes limit program b type file items) (run.write_bytes limit program b' type file items)

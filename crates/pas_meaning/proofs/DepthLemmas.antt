@@ -12,7 +12,7 @@ use Rattle.pas_types.specs.Typed.{TypedProgram}
 use Rattle.pas_meaning.specs.declared.errors.TheConstants.{OUT_OF_RANGE, STATUS_OUT_OF_RANGE}
 use Rattle.pas_meaning.specs.Answers.{Answer}
 use Rattle.pas_meaning.specs.Outcome.{World, Outcome, gives, ends, errs, too_deep, Doing, pure, and_then, ◌>>=◌}
-use Rattle.pas_meaning.specs.Outcome.{◌>>◌, answered, ask, change, led, passes, stops, take_step, is_full, begin_call}
+use Rattle.pas_meaning.specs.Outcome.{◌>>◌, answered, change, led, passes, stops, take_step, is_full, begin_call}
 use Rattle.pas_meaning.specs.Store as store
 use Rattle.pas_meaning.specs.Store.{Datum, Store, holds, number_of}
 use Rattle.pas_meaning.specs.Arithmetic.{is_same}
@@ -176,7 +176,7 @@ module _ (count : ℕ) (program : TypedProgram) (b b' : Doings)
   as_read_item : (type : PasType) (file : Slot) (place : Place)
       → AsRun (run.read_item (Some count) program b type file place) (run.read_item None program b' type file place)
   as_read_item type file place =
-      as_behind (ask (run.read_at program.types type (run.window file type))) (λ datum.
+      as_bind (as_value (typed.read (run.buffer_of file type))) (λ datum.
       as_then (as_assigned place datum) (as_step_on typed.get file))
 
   as_read_items : (type : PasType) (file : Slot) (places : List Place)
@@ -209,7 +209,7 @@ module _ (count : ℕ) (program : TypedProgram) (b b' : Doings)
       → AsRun (run.write_byte (Some count) program b type file item) (run.write_byte None program b' type file item)
   as_byte type file item =
       as_bind (as_value item) (λ datum.
-      as_then (as_self (run.store_at program.types type (run.window file type) datum)) (as_step_on typed.put file))
+      as_then (as_assigned (run.buffer_of file type) datum) (as_step_on typed.put file))
 
   as_bytes : (type : PasType) (file : Slot) (items : List Value)
       → AsRun (run.write_bytes (Some count) program b type file items) (run.write_bytes None program b' type file items)

@@ -156,7 +156,7 @@ module _ (limit : Option ℕ) (program : TypedProgram) (below : Doings)
   pub goes_read_item : (type : PasType) (file : Slot) (place : Place)
       → Goes (run.read_item limit program below type file place)
   goes_read_item type file place =
-      goes_bind (goes_ask (run.read_at program.types type (run.window file type))) (λ datum.
+      goes_bind (goes_value (typed.read (run.buffer_of file type))) (λ datum.
       goes_then (goes_assigned place datum) (goes_step_on typed.get file))
 
   pub goes_read_items : (type : PasType) (file : Slot) (places : List Place)
@@ -193,7 +193,7 @@ module _ (limit : Option ℕ) (program : TypedProgram) (below : Doings)
       → Goes (run.write_byte limit program below type file item)
   goes_byte type file item =
       goes_bind (goes_value item) (λ datum.
-      goes_then (goes_store program.types type (run.window file type) datum) (goes_step_on typed.put file))
+      goes_then (goes_assigned (run.buffer_of file type) datum) (goes_step_on typed.put file))
 
   pub goes_bytes : (type : PasType) (file : Slot) (items : List Value)
       → Goes (run.write_bytes limit program below type file items)

@@ -170,7 +170,10 @@ next_value way.Down value = value -ℤ pos 1
 abbrev pub forget : Slot → Store → Store
 forget slot store = stored (home_of slot store) undefined store
 
--- the type of the components of a file
+-- f^, and the type of the components of a file
+abbrev pub buffer_of : Slot → PasType → Place
+buffer_of file type = typed.buffer (typed.slot file) type
+
 abbrev pub components_of : Table → Place → PasType
 components_of table file = unwrap_or (component_of table (type_of_place file)) (whole char)
 
@@ -294,7 +297,7 @@ module _ (limit : Option ℕ) (program : TypedProgram) (below : Doings) where
   -- read(f, v) is v := f^; get(f)
   abbrev pub read_item : PasType → Slot → Place → Doing Store (Unit {0})
   read_item type file place = do
-    datum ← ask (read_at program.types type (window file type))
+    datum ← value (typed.read (buffer_of file type))
     assigned place datum
     on_file file (file_step typed.get)
 
@@ -331,7 +334,7 @@ module _ (limit : Option ℕ) (program : TypedProgram) (below : Doings) where
   abbrev pub write_byte : PasType → Slot → Value → Doing Store (Unit {0})
   write_byte type file item = do
     datum ← value item
-    store_at program.types type (window file type) datum
+    assigned (buffer_of file type) datum
     on_file file (file_step typed.put)
 
   abbrev pub write_bytes : PasType → Slot → List Value → Doing Store (Unit {0})
