@@ -73,7 +73,7 @@ module _ (limit : Option ℕ) (program : TypedProgram) (below : Doings)
       search (goes_bind, goes_then, goes_change, goes_below, goes_ask, goes_end_call, goes_pure) depth 12
 
   pub goes_call : (routine : ℕ) (arguments : List Argument) → Goes (run.call limit program below routine arguments)
-  goes_call routine arguments = search (goes_then, goes_bind, goes_step, goes_begin, goes_body)
+  goes_call routine arguments = search (goes_then, goes_step, goes_begin, goes_body)
 
   mutual
     pub goes_value : (found : Value) → Goes (run.value limit program below found)

@@ -86,7 +86,7 @@ pub data Argument : Type 0 where
 abbrev pub boolean : Bool → Datum
 boolean value = holds (truth value)
 
--- the variable that a file is: it holds the number of the file from the start, and has no index
+-- the variable that a file is, which has no index; and the file's number, which the variable holds from the start
 abbrev pub file_variable : Place → Answer Slot
 file_variable (typed.slot slot) = fine slot
 file_variable place = wrong WRONG_MODE
@@ -95,7 +95,7 @@ abbrev pub file_of : Slot → Store → World → Answer ℕ
 file_of slot store world =
     then_answer (number_at (home_of slot store) store) (λ value. file_named (nat_abs value) world)
 
--- what a question to a file answers, and a step of a file
+-- what a question to a file answers, and a step of it: each finds the file when it comes to it
 abbrev pub of_file : {A : Type 0} → Slot → (File → Answer A) → Store → World → Answer A
 of_file file question store world = then_answer (file_of file store world) (λ number. question (file_at number world))
 
@@ -170,7 +170,7 @@ next_value way.Down value = value -ℤ pos 1
 abbrev pub forget : Slot → Store → Store
 forget slot store = stored (home_of slot store) undefined store
 
--- f^, and the type of the components of a file
+-- f^ of components of a type, and the type of the components of a file
 abbrev pub buffer_of : Slot → PasType → Place
 buffer_of file type = typed.buffer (typed.slot file) type
 
