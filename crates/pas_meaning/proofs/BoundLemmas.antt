@@ -7,10 +7,10 @@ use Rattle.std.specs.List.{list_any}
 use Rattle.pas_syntax.specs.declared.operators.Multiplying.TheVariants as multiplying
 use Rattle.pas_syntax.specs.declared.operators.Adding.TheVariants as adding
 use Rattle.pas_syntax.specs.declared.operators.Way.{Way}
-use Rattle.pas_types.specs.Types.{PasType}
-use Rattle.pas_types.specs.Typed as typed
-use Rattle.pas_types.specs.Typed.{FileTest, FileStep, Slot, Value, Place, Passed, Item, Statement, Statements, Arms}
-use Rattle.pas_types.specs.Typed.{Body, TypedProgram}
+use Rattle.pas_typed.specs.Types.{PasType}
+use Rattle.pas_typed.specs.Typed as typed
+use Rattle.pas_typed.specs.Typed.{FileTest, FileStep, Slot, Value, Place, Passed, Item, Statement, Statements, Arms}
+use Rattle.pas_typed.specs.Typed.{Body, TypedProgram}
 use Rattle.pas_meaning.specs.Files as files
 use Rattle.pas_meaning.specs.Outcome.{Run, Outcome, gives, ends, errs, Doing, pure, and_then, ◌>>=◌, ◌>>◌, ask}
 use Rattle.pas_meaning.specs.Outcome.{led, stepped, take_step}

@@ -5,11 +5,11 @@ use Rattle.std.specs.List.{list_any}
 use Rattle.pas_syntax.specs.declared.operators.Multiplying.TheVariants as multiplying
 use Rattle.pas_syntax.specs.declared.operators.Adding.TheVariants as adding
 use Rattle.pas_syntax.specs.declared.operators.Way.{Way}
-use Rattle.pas_types.specs.Types.{PasType}
-use Rattle.pas_types.specs.Typed as typed
-use Rattle.pas_types.specs.Typed.{FileTest, FileStep, Slot, Value, Place, Passed, Item, Statement, Statements, Arms}
-use Rattle.pas_types.specs.Typed.{Body}
-use Rattle.pas_types.specs.Typed.{TypedProgram}
+use Rattle.pas_typed.specs.Types.{PasType}
+use Rattle.pas_typed.specs.Typed as typed
+use Rattle.pas_typed.specs.Typed.{FileTest, FileStep, Slot, Value, Place, Passed, Item, Statement, Statements, Arms}
+use Rattle.pas_typed.specs.Typed.{Body}
+use Rattle.pas_typed.specs.Typed.{TypedProgram}
 use Rattle.pas_meaning.specs.Files as files
 use Rattle.pas_meaning.specs.Outcome.{World, Outcome, gives, ends, errs, too_deep, Doing, pure, and_then, ◌>>=◌}
 use Rattle.pas_meaning.specs.Outcome.{◌>>◌}

@@ -5,12 +5,11 @@ use Rattle.std.specs.List.{list_any}
 use Rattle.pas_syntax.specs.declared.operators.Multiplying.TheVariants as multiplying
 use Rattle.pas_syntax.specs.declared.operators.Adding.TheVariants as adding
 use Rattle.pas_syntax.specs.declared.operators.Way.{Way}
-use Rattle.pas_types.specs.Types.{PasType, Table}
-use Rattle.pas_types.specs.Typed as typed
-use Rattle.pas_types.specs.Typed.{FileTest, FileStep, Slot, Value, Place, Passed, Item, Statement, Statements, Arms}
-use Rattle.pas_types.specs.Typed.{Body}
-use Rattle.pas_types.specs.Typed.{TypedProgram}
-use Rattle.pas_types.specs.Expressions.{type_of_place}
+use Rattle.pas_typed.specs.Types.{PasType, Table}
+use Rattle.pas_typed.specs.Typed as typed
+use Rattle.pas_typed.specs.Typed.{FileTest, FileStep, Slot, Value, Place, Passed, Item, Statement, Statements, Arms}
+use Rattle.pas_typed.specs.Typed.{Body}
+use Rattle.pas_typed.specs.Typed.{TypedProgram}
 use Rattle.pas_meaning.specs.declared.errors.TheConstants.{INDEX_OUT_OF_RANGE, NO_CASE_MATCHES}
 use Rattle.pas_meaning.specs.Answers.{wrong}
 use Rattle.pas_meaning.specs.Files as files
@@ -28,6 +27,7 @@ use Rattle.pas_meaning.proofs.OnwardLemmas.{goes_if, goes_step, goes_begin, goes
 use Rattle.pas_meaning.proofs.OnwardLemmas.{goes_change_file, goes_reset, get_keeps, readln_keeps, buffer_set_keeps}
 use Rattle.pas_meaning.proofs.OnwardLemmas.{goes_rewrite, goes_append, goes_put, onward_same}
 use Rattle.pas_meaning.specs.FileSteps.{change_file}
+use Rattle.pas_typed.specs.TypeOf.{type_of_place}
 
 pub goes_on : (flow : Flow) {rest : Doing Store Flow} → Goes rest → Goes (run.go_on flow rest)
 goes_on run.next rest = rest

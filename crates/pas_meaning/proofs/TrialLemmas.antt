@@ -3,8 +3,8 @@ use Rattle.std.proofs.Common.{◌≡◌, ◌≢◌, ℕ, suc, List, [], ◌∷�
 use Rattle.std.proofs.Common.{refl, ap, sym, subst}
 use Rattle.std.specs.Prelude.{zip, codes}
 use Rattle.std.specs.Str.{bytes_eq}
-use Rattle.pas_types.specs.Typed as typed
-use Rattle.pas_types.specs.Typed.{Variable, TypedProgram}
+use Rattle.pas_typed.specs.Typed as typed
+use Rattle.pas_typed.specs.Typed.{Variable, TypedProgram}
 use Rattle.pas_meaning.specs.declared.errors.TheConstants.{CALL_LIMIT}
 use Rattle.pas_meaning.specs.Outcome.{World, Outcome, gives, ends, errs, too_deep, replay}
 use Rattle.pas_meaning.specs.Store.{Store}

@@ -11,9 +11,9 @@ use Rattle.pas_syntax.specs.declared.operators.Adding.{Adding}
 use Rattle.pas_syntax.specs.declared.operators.Adding.TheVariants as adding
 use Rattle.pas_syntax.specs.declared.operators.Relation.{Relation}
 use Rattle.pas_syntax.specs.declared.operators.Relation.TheVariants as relates
-use Rattle.pas_types.specs.Types.{is_within, all_of, integer, char}
-use Rattle.pas_types.specs.Typed as typed
-use Rattle.pas_types.specs.Typed.{Function}
+use Rattle.pas_typed.specs.Types.{is_within, all_of, integer, char}
+use Rattle.pas_typed.specs.Typed as typed
+use Rattle.pas_typed.specs.Typed.{Function}
 use Rattle.pas_meaning.specs.declared.errors.TheConstants.{PAST_MAXINT, DIVISION_BY_ZERO, MOD_BELOW_1, CHR_OUT_OF_RANGE}
 use Rattle.pas_meaning.specs.Answers.{Answer, fine, wrong}
 

@@ -8,11 +8,10 @@ use Rattle.pas_syntax.specs.declared.operators.Multiplying.TheVariants as multip
 use Rattle.pas_syntax.specs.declared.operators.Adding.TheVariants as adding
 use Rattle.pas_syntax.specs.declared.operators.Way.{Way}
 use Rattle.pas_syntax.specs.declared.operators.Way.TheVariants as way
-use Rattle.pas_types.specs.Types.{Range, PasType, Table, whole, char, component_of}
-use Rattle.pas_types.specs.Typed as typed
-use Rattle.pas_types.specs.Typed.{FileTest, FileStep, Variable, Slot, Value, Place, Passed, Item, Statement, Statements}
-use Rattle.pas_types.specs.Typed.{Arms, Heading, Body, TypedProgram}
-use Rattle.pas_types.specs.Expressions.{type_of_place}
+use Rattle.pas_typed.specs.Types.{Range, PasType, Table, whole, char, component_of}
+use Rattle.pas_typed.specs.Typed as typed
+use Rattle.pas_typed.specs.Typed.{FileTest, FileStep, Variable, Slot, Value, Place, Passed, Item, Statement, Statements}
+use Rattle.pas_typed.specs.Typed.{Arms, Heading, Body, TypedProgram}
 use Rattle.pas_meaning.specs.declared.errors.TheConstants.{UNDEFINED_VALUE, INDEX_OUT_OF_RANGE}
 use Rattle.pas_meaning.specs.declared.errors.TheConstants.{NO_CASE_MATCHES, UNDEFINED_RESULT, STATUS_OUT_OF_RANGE}
 use Rattle.pas_meaning.specs.Answers.{Answer, fine, wrong, or_wrong}
@@ -26,6 +25,7 @@ use Rattle.pas_meaning.specs.Store.{along, stored, cell_at, with_cell, held_by, 
 use Rattle.pas_meaning.specs.Store.{fits, fetched_as, file_number, blank_of, opened, closed}
 use Rattle.pas_meaning.specs.Arithmetic.{truth, is_true, within_maxint, signed, multiplied, added, is_same, compared}
 use Rattle.pas_meaning.specs.Arithmetic.{function_at}
+use Rattle.pas_typed.specs.TypeOf.{type_of_place}
 
 -- how a statement goes on: behind itself, or at a label of a list around it; and a turn of a loop also behind the loop
 pub data Flow : Type 0 where

@@ -2,10 +2,10 @@
 use Rattle.std.specs.Prelude.{ℕ, zero, suc, ◌-◌, ℤ, nat_abs, if◌then◌else◌, List}
 use Rattle.std.specs.Prelude.{[]}
 use Rattle.std.specs.Prelude.{◌∷◌, ◌++◌, length, map, take, slice_index_or, slice_set, Option, Some, None}
-use Rattle.pas_types.specs.Types as types
-use Rattle.pas_types.specs.Types.{Range, PasType, Field, Structure, TableRow, Table, count_of, range_of, is_within}
-use Rattle.pas_types.specs.Typed as typed
-use Rattle.pas_types.specs.Typed.{Slot, Variable}
+use Rattle.pas_typed.specs.Types as types
+use Rattle.pas_typed.specs.Types.{Range, PasType, Field, Structure, TableRow, Table, count_of, range_of, is_within}
+use Rattle.pas_typed.specs.Typed as typed
+use Rattle.pas_typed.specs.Typed.{Slot, Variable}
 use Rattle.pas_meaning.specs.declared.errors.TheConstants.{UNDEFINED_VALUE, OUT_OF_RANGE}
 use Rattle.pas_meaning.specs.Answers.{Answer, fine, wrong, then_answer, or_wrong}
 

@@ -3,9 +3,9 @@
 use Rattle.std.specs.Prelude.{ℕ, suc, ◌==◌, pos, List, [], ◌∷◌, map, reverse, zip, position, slice_get, codes}
 use Rattle.std.specs.Prelude.{if◌then◌else◌, Option, Some, None, option_map, unwrap_or}
 use Rattle.std.specs.Str.{bytes_eq}
-use Rattle.pas_types.specs.Types.{text, same_type}
-use Rattle.pas_types.specs.Typed.{Variable, TypedProgram}
-use Rattle.pas_types.specs.Typed as typed
+use Rattle.pas_typed.specs.Types.{text, same_type}
+use Rattle.pas_typed.specs.Typed.{Variable, TypedProgram}
+use Rattle.pas_typed.specs.Typed as typed
 use Rattle.pas_meaning.specs.declared.errors.TheConstants.{CALL_LIMIT}
 use Rattle.pas_meaning.specs.Files as files
 use Rattle.pas_meaning.specs.Files.{File}

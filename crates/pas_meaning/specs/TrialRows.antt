@@ -4,9 +4,9 @@ use Rattle.pas_syntax.specs.declared.operators.Sign.TheVariants as sign
 use Rattle.pas_syntax.specs.declared.operators.Multiplying.TheVariants as multiplying
 use Rattle.pas_syntax.specs.declared.operators.Adding.TheVariants as adding
 use Rattle.pas_syntax.specs.declared.operators.Way.TheVariants as way
-use Rattle.pas_types.specs.Types.{whole, integer, char, text}
-use Rattle.pas_types.specs.Typed as typed
-use Rattle.pas_types.specs.Typed.{Variable, Slot, Value, Place, Statement, Statements, Heading, Body, TypedProgram}
+use Rattle.pas_typed.specs.Types.{whole, integer, char, text}
+use Rattle.pas_typed.specs.Typed as typed
+use Rattle.pas_typed.specs.Typed.{Variable, Slot, Value, Place, Statement, Statements, Heading, Body, TypedProgram}
 use Rattle.pas_meaning.specs.declared.errors.TheConstants.{UNDEFINED_VALUE}
 use Rattle.pas_meaning.specs.Outcome.{halted, going}
 use Rattle.pas_meaning.specs.Trial.{Ending, ended, error, Result, pascal_trial}

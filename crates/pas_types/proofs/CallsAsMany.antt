@@ -12,12 +12,12 @@ use Rattle.pas_syntax.specs.Tree.{Behind, Separated, Expr}
 use Rattle.pas_syntax.specs.Words.{Word, at, name_at, words_if, separated, width_words, argument_words}
 use Rattle.pas_syntax.specs.Words.{arguments_words, text_at}
 use Rattle.pas_types.specs.Marks.{Marks, no_token, shows, quiet, joined, Judged, checked}
-use Rattle.pas_types.specs.Types.{integer, PasType, Table, component_of}
-use Rattle.pas_types.specs.Typed.{Variable, Slot, Value, Place, Heading, Statement, Item}
-use Rattle.pas_types.specs.Typed as typed
+use Rattle.pas_typed.specs.Types.{integer, PasType, Table, component_of}
+use Rattle.pas_typed.specs.Typed.{Variable, Slot, Value, Place, Heading, Statement, Item}
+use Rattle.pas_typed.specs.Typed as typed
 use Rattle.pas_types.specs.Scopes.{Scopes, Entity, constant, variable, routine, function, file_test, file_step}
 use Rattle.pas_types.specs.Scopes.{procedure, unclear, type, Procedure, read, readln, write, writeln, uexit}
-use Rattle.pas_types.specs.Expressions.{value_of, only, type_of_place, file_only, Given, Demand, met}
+use Rattle.pas_types.specs.Expressions.{value_of, only, file_only, Given, Demand, met}
 use Rattle.pas_types.specs.Expressions.{demands_of, heading_of}
 use Rattle.pas_types.specs.Calls.{Actual, text_in, width_of, actual_of, actuals_of, no_width, without_width}
 use Rattle.pas_types.specs.Calls.{procedure_with, routine_with, Extent, items_alone, whole_line}
@@ -32,6 +32,7 @@ use Rattle.pas_types.specs.TypeForms.{undoubled}
 use Rattle.pas_types.proofs.TypesAsMany.{char_many}
 use Rattle.pas_types.proofs.ExpressionsAsMany.{value_many, plain_marks, met_count, IsCall, called_count}
 use Rattle.pas_types.proofs.ExpressionsAsMany.{not_called_count}
+use Rattle.pas_typed.specs.TypeOf.{type_of_place}
 
 -- arguments
 abbrev pub given_of : List Actual → List Given

@@ -12,7 +12,7 @@ use Rattle.pas_syntax.specs.Words.{Word, at, name_at, words_if, idents_words}
 use Rattle.pas_syntax.specs.Words.{constant_row_words, type_row_words, variable_row_words}
 use Rattle.pas_syntax.specs.Words.{compound_words, statements_words, program_parameters_words, program_words}
 use Rattle.pas_types.specs.Marks.{Marks, shows, quiet, followed, joined, listed, unless, Judged}
-use Rattle.pas_types.specs.Typed.{TypedProgram, Statements}
+use Rattle.pas_typed.specs.Typed.{TypedProgram, Statements}
 use Rattle.pas_types.specs.Scopes.{Outer, contains, idents_of, entity_in}
 use Rattle.pas_types.specs.Labels.{labels_of_list}
 use Rattle.pas_types.specs.Statements.{statements_of}

@@ -10,16 +10,17 @@ use Rattle.pas_syntax.specs.Tree.{Numeral, Behind, Separated, Labels, ConstantRo
 use Rattle.pas_syntax.specs.Words.{Word, at, name_at, number_at, words_if, separated, type_words}
 use Rattle.pas_syntax.specs.Words.{labels_words, constant_row_words, type_row_words, variable_row_words, rows_words}
 use Rattle.pas_types.specs.Marks.{Marks, shows, quiet, joined, listed, unless, Judged, noted}
-use Rattle.pas_types.specs.Types.{Table}
-use Rattle.pas_types.specs.Typed.{declared}
+use Rattle.pas_typed.specs.Types.{Table}
+use Rattle.pas_typed.specs.Typed.{declared}
 use Rattle.pas_types.specs.Scopes.{Outer, Inner, Scopes, names_of, contains, spellings_of, new_names}
-use Rattle.pas_types.specs.TypeForms.{constant_of, Made, form_of}
+use Rattle.pas_types.specs.TypeForms.{constant_of, form_of}
 use Rattle.pas_types.specs.Declarations.{numerals_of, new_label, each_label, label_marks, taken, program_scopes, Stage}
 use Rattle.pas_types.specs.Declarations.{more_rows, rows_of, constant_row, type_row, global_only, global_row}
 use Rattle.pas_types.specs.Declarations.{local_only, routine_scopes, local_row, more_local_rows, local_rows}
 use Rattle.pas_types.proofs.AsMany.{AsMany, none, and_then, all, next_word, before_word, behind_word}
 use Rattle.pas_types.proofs.AsMany.{noted_many, new_names_many, total, listed_total}
 use Rattle.pas_types.proofs.TypesAsMany.{constant_many, form_many}
+use Rattle.pas_typed.specs.Types.{Made}
 
 -- labels
 labels_total : (before : List ℕ) (numerals : List Numeral)

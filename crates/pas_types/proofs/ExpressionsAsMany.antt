@@ -17,14 +17,14 @@ use Rattle.pas_syntax.specs.Tree as tree
 use Rattle.pas_syntax.specs.Tree.{Ident, Expr, Sum, Term, Factor, Exprs}
 use Rattle.pas_types.specs.Marks.{Marks, no_token, shows, quiet}
 use Rattle.pas_types.specs.Marks.{followed, joined, Judged, checked, noted, unless}
-use Rattle.pas_types.specs.Types.{integer, boolean, PasType, Table, ArrayParts, Field, elements_of, fields_of}
-use Rattle.pas_types.specs.Typed.{FileTest, Place, Value, Variable, Slot, Heading}
+use Rattle.pas_typed.specs.Types.{integer, boolean, PasType, Table, ArrayParts, Field, elements_of, fields_of}
+use Rattle.pas_typed.specs.Typed.{FileTest, Place, Value, Variable, Slot, Heading}
 use Rattle.pas_types.specs.Scopes.{Scopes, Entity, constant, variable, routine, function, file_test, file_step}
 use Rattle.pas_types.specs.Scopes.{procedure, unclear, type, entity_of}
 use Rattle.pas_types.specs.TypeForms.{undoubled}
 use Rattle.pas_types.specs.Expressions.{value_of, sum_of, term_of, factor_of, variable_value, place_of, elements_at}
 use Rattle.pas_types.specs.Expressions.{values_of, as_value, as_place, without_arguments, function_alone, test_alone}
-use Rattle.pas_types.specs.Expressions.{heading_of, only, ordinal_only, type_of_place, like, record_only, files_only}
+use Rattle.pas_types.specs.Expressions.{heading_of, only, ordinal_only, like, record_only, files_only}
 use Rattle.pas_types.specs.Expressions.{array_only}
 use Rattle.pas_types.specs.Expressions.{indexed_by, element_by, field_at, field_in, field_by, as_array}
 use Rattle.pas_types.specs.Expressions.{Given, met, argument_marks, asked_nothing, Demand, called, not_called}
@@ -37,6 +37,7 @@ use Rattle.pas_types.proofs.AsMany.{AsMany, one, at_first_many, checked_many, no
 use Rattle.pas_types.proofs.AsMany.{before_word, between, count}
 use Rattle.pas_types.proofs.AsMany.{total, followed_count, checked_count, first_count}
 use Rattle.pas_types.proofs.AsMany.{regrouped, listed_count}
+use Rattle.pas_typed.specs.TypeOf.{type_of_place}
 
 -- names
 pub place_named_many : (word : Word) (entity : Option Entity) → AsMany (word ∷ []) (as_place entity).marks

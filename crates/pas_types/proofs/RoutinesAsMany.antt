@@ -17,12 +17,12 @@ use Rattle.pas_types.specs.declared.limits.TheConstants.{ROUTINE_LIMIT}
 use Rattle.pas_types.specs.Marks.{Marks, no_token, shows, quiet, at_first, joined, unless, Judged}
 use Rattle.pas_types.specs.Marks.{noted, checked}
 use Rattle.pas_types.specs.Scopes.{Outer, Inner, names_of, contains, spellings_of, new_names}
-use Rattle.pas_types.specs.TypeForms.{Made, maybe_quiet}
+use Rattle.pas_types.specs.TypeForms.{maybe_quiet}
 use Rattle.pas_types.specs.Labels.{labels_of_list}
 use Rattle.pas_types.specs.Statements.{statements_of}
 use Rattle.pas_types.specs.Declarations.{declared_labels, label_marks, taken, local_only, routine_scopes, local_rows}
 use Rattle.pas_types.specs.Declarations.{InnerStage}
-use Rattle.pas_types.specs.Typed.{Statements}
+use Rattle.pas_typed.specs.Typed.{Statements}
 use Rattle.pas_types.specs.Routines.{mode_of, type_in_heading, Formal, parameter_of, formal_behind, more_formals}
 use Rattle.pas_types.specs.Routines.{no_formals, formals_of, Sort, HeadingParts, head_of}
 use Rattle.pas_types.specs.Routines.{ordinal_result, result_part, missing_result, new_inner, HeadingStage}
@@ -35,6 +35,7 @@ use Rattle.pas_types.proofs.AsMany.{nothing_behind, regrouped}
 use Rattle.pas_types.proofs.TypesAsMany.{type_named_many, left_out_many}
 use Rattle.pas_types.proofs.StatementsAsMany.{statements_many}
 use Rattle.pas_types.proofs.DeclarationsAsMany.{labels_many, local_rows_many}
+use Rattle.pas_typed.specs.Types.{Made}
 
 type_name_many : (outer : Outer) (inner : Inner) (n : ℕ) (found : TypeName)
     → AsMany (type_name_words n found) (type_in_heading outer inner found).marks

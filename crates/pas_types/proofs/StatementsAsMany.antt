@@ -15,9 +15,9 @@ use Rattle.pas_syntax.specs.Words as words
 use Rattle.pas_types.specs.declared.limits.TheConstants.{GREATEST_LABEL}
 use Rattle.pas_types.specs.Marks.{Marks, no_token, shows, quiet, joined, Judged, judged, checked, means}
 use Rattle.pas_types.specs.Marks.{refuses}
-use Rattle.pas_types.specs.Types.{Base, boolean, PasType, Table}
-use Rattle.pas_types.specs.Typed.{Slot, Value}
-use Rattle.pas_types.specs.Typed as typed
+use Rattle.pas_typed.specs.Types.{Base, boolean, PasType, Table}
+use Rattle.pas_typed.specs.Typed.{Slot, Value}
+use Rattle.pas_typed.specs.Typed as typed
 use Rattle.pas_types.specs.Scopes.{Outer, Inner, Scopes, Entity, constant, variable, routine, function, file_test}
 use Rattle.pas_types.specs.Scopes.{file_step, procedure, unclear, type, entity_of}
 use Rattle.pas_types.specs.TypeForms.{ConstantValue, constant_of, maybe_quiet}

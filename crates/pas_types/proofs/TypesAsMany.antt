@@ -16,17 +16,18 @@ use Rattle.pas_syntax.specs.Words.{sign_kind, constant_sign, constant_words, lef
 use Rattle.pas_syntax.specs.Words.{type_words, fields_words}
 use Rattle.pas_types.specs.Marks.{Marks, no_token, quiet, joined, Judged, checked, noted}
 use Rattle.pas_types.specs.Marks.{judged, means, refuses, known, both}
-use Rattle.pas_types.specs.Types.{integer, PasType, Table, fields}
+use Rattle.pas_typed.specs.Types.{integer, PasType, Table, fields}
 use Rattle.pas_types.specs.Scopes.{Scopes, Entity, constant, variable, routine, function, file_test, file_step}
 use Rattle.pas_types.specs.Scopes.{procedure, unclear, type, entity_of, new_names}
 use Rattle.pas_types.specs.TypeForms.{ConstantValue, known_value, char_in, undoubled, as_constant, integer_only}
-use Rattle.pas_types.specs.TypeForms.{behind_sign, constant_of, Made, as_type, type_named, fits_below}
+use Rattle.pas_types.specs.TypeForms.{behind_sign, constant_of, as_type, type_named, fits_below}
 use Rattle.pas_types.specs.TypeForms.{simple_of, index_only, Indexes, no_indexes, with_index, table_of_indexes}
 use Rattle.pas_types.specs.TypeForms.{more_indexes, indexes_of, no_file, within_limit, component_only}
 use Rattle.pas_types.specs.TypeForms.{Group, table_of_fields, field_names, form_of}
-use Rattle.pas_types.specs.TypeForms.{groups_of, maybe_quiet, arrays, made}
+use Rattle.pas_types.specs.TypeForms.{groups_of, maybe_quiet, arrays}
 use Rattle.pas_types.proofs.AsMany.{AsMany, none, one, and_then, all, next_word, around, behind_word, before_word}
 use Rattle.pas_types.proofs.AsMany.{checked_many, noted_many, maybe_many, new_names_many, regrouped, nothing_behind}
+use Rattle.pas_typed.specs.Types.{Made, made}
 
 -- constants
 pub char_many : (word : Word) (bytes : List ℕ) → AsMany (word ∷ []) (char_in bytes).marks

@@ -9,16 +9,18 @@ use Rattle.pas_syntax.specs.Tree.{Behind, Separated, Expr}
 use Rattle.pas_syntax.specs.Parse.{left_out}
 use Rattle.pas_types.specs.Marks.{Marks, no_token, quiet, shows, with_behind, joined, listed, unless, Judged, judged}
 use Rattle.pas_types.specs.Marks.{means, refuses, known, both, all_known, checked}
-use Rattle.pas_types.specs.Types.{integer, char, PasType, text, same_type, Table, component_of}
-use Rattle.pas_types.specs.Typed as typed
-use Rattle.pas_types.specs.Typed.{FileStep, Variable, Slot, Value, Place, Item, Statement, Heading}
+use Rattle.pas_typed.specs.Types.{integer, char, PasType, text, same_type, Table, component_of}
+use Rattle.pas_typed.specs.Typed as typed
+use Rattle.pas_typed.specs.Typed.{FileStep, Variable, Slot, Value, Place, Item, Statement, Heading}
 use Rattle.pas_types.specs.Scopes.{Entity, routine, file_step, procedure, unclear, Procedure, read, readln, write}
 use Rattle.pas_types.specs.Scopes.{writeln, uexit, Scopes, standard_file}
 use Rattle.pas_types.specs.TypeForms.{undoubled}
-use Rattle.pas_types.specs.Expressions.{type_of, type_of_place, is_of, only, are_compatible, place_in, file_in}
+use Rattle.pas_types.specs.Expressions.{only, place_in, file_in}
 use Rattle.pas_types.specs.Expressions.{file_only}
 use Rattle.pas_types.specs.Expressions.{compatible_with, Demand, Bare, bare, Given, met, called, not_called, given}
 use Rattle.pas_types.specs.Expressions.{demands_of, passed_to, heading_of, first_value, value_of}
+use Rattle.pas_typed.specs.TypeOf.{type_of, type_of_place}
+use Rattle.pas_typed.specs.Types.{is_of, are_compatible}
 
 -- arguments of a procedure: a value, the text of a string of more than one byte, and a width
 

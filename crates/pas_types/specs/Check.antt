@@ -9,9 +9,8 @@ use Rattle.pas_tokens.specs.Cutting.{Wrong, wrong}
 use Rattle.pas_syntax.specs.Tree.{Ident, ProgramParameters, Program}
 use Rattle.pas_syntax.specs.Words.{program_words}
 use Rattle.pas_types.specs.Marks.{Marks, no_token, quiet, shows, joined, listed, unless, first_fault, both}
-use Rattle.pas_types.specs.Types.{text, Table}
-use Rattle.pas_types.specs.TypeForms.{is_lawful_file}
-use Rattle.pas_types.specs.Typed.{declared, Variable, global, TypedProgram}
+use Rattle.pas_typed.specs.Types.{text, Table}
+use Rattle.pas_typed.specs.Typed.{declared, Variable, global, TypedProgram}
 use Rattle.pas_types.specs.Scopes.{Entity, variable, KnownRoutine, Outer, standard_names, contains, idents_of}
 use Rattle.pas_types.specs.Scopes.{entity_in}
 use Rattle.pas_types.specs.Labels.{labels_of_list, label_at_end}
@@ -19,6 +18,7 @@ use Rattle.pas_types.specs.Statements.{statements_of}
 use Rattle.pas_types.specs.Declarations.{declared_labels, label_marks, program_scopes, rows_of, constant_row, type_row}
 use Rattle.pas_types.specs.Declarations.{global_row, named_slots}
 use Rattle.pas_types.specs.Routines.{label_missing, routines_of}
+use Rattle.pas_typed.specs.Types.{is_lawful_file}
 
 -- the names of the program's parameters
 abbrev pub parameter_idents : Option ProgramParameters → List Ident

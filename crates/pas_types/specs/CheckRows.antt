@@ -12,8 +12,8 @@ use Rattle.pas_syntax.specs.Tree.{Ident, Numeral, Lined, Separated, TypeForm, Ex
 use Rattle.pas_syntax.specs.Tree.{Statements, Compound, Rows, VariableRow, Program}
 use Rattle.pas_syntax.specs.Parse.{left_out}
 use Rattle.pas_syntax.specs.Words.{program_words}
-use Rattle.pas_types.specs.Types as types
-use Rattle.pas_types.specs.Typed as typed
+use Rattle.pas_typed.specs.Types as types
+use Rattle.pas_typed.specs.Typed as typed
 use Rattle.pas_types.specs.Check.{checked_of, fault_of}
 
 -- names, numbers and what is made of them, all in line 1

@@ -8,12 +8,13 @@ use Rattle.pas_tokens.specs.Cutting.{Wrong, wrong}
 use Rattle.pas_syntax.specs.Tree.{Ident, Numeral, Separated, Labels, ConstantRow, TypeRow, VariableRow, Rows}
 use Rattle.pas_types.specs.declared.limits.TheConstants.{CELL_LIMIT, ROUTINE_CELL_LIMIT, GREATEST_LABEL}
 use Rattle.pas_types.specs.Marks.{Marks, no_token, quiet, shows, joined, listed, unless, known, noted}
-use Rattle.pas_types.specs.Types.{PasType, Table, component_of, cells_of}
-use Rattle.pas_types.specs.Typed.{Mode, declared, by_name, Variable, Home, global, local}
+use Rattle.pas_typed.specs.Types.{PasType, Table, component_of, cells_of}
+use Rattle.pas_typed.specs.Typed.{Mode, declared, by_name, Variable, Home, global, local}
 use Rattle.pas_types.specs.Scopes.{Entity, constant, type, variable, unclear, Named, names, names_of, Outer, Inner}
 use Rattle.pas_types.specs.Scopes.{Scopes, standard_names, contains, spellings_of, new_names}
-use Rattle.pas_types.specs.TypeForms.{constant_of, Made, form_of}
+use Rattle.pas_types.specs.TypeForms.{constant_of, form_of}
 use Rattle.pas_types.specs.Labels.{has_label}
+use Rattle.pas_typed.specs.Types.{Made}
 
 -- labels
 

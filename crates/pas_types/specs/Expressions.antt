@@ -16,59 +16,15 @@ use Rattle.pas_syntax.specs.Tree as tree
 use Rattle.pas_syntax.specs.Tree.{Ident, Expr, Sum, Term, Factor, Exprs}
 use Rattle.pas_types.specs.Marks.{Marks, no_token, quiet, shows, at_first, with_behind, joined, listed, unless}
 use Rattle.pas_types.specs.Marks.{Judged, judged, means, refuses, known, both, checked, noted}
-use Rattle.pas_types.specs.Types.{Base, integer, char, boolean, same_base, PasType, whole, text, same_type}
-use Rattle.pas_types.specs.Types.{Field, ArrayParts, Table, range_of, component_of, elements_of, fields_of}
-use Rattle.pas_types.specs.Typed as typed
-use Rattle.pas_types.specs.Typed.{Function, FileTest, Mode, by_name, Variable, Slot, Value, Place, Passed, Heading}
+use Rattle.pas_typed.specs.Types.{Base, integer, char, boolean, same_base, PasType, whole, text, same_type}
+use Rattle.pas_typed.specs.Types.{Field, ArrayParts, Table, range_of, component_of, elements_of, fields_of}
+use Rattle.pas_typed.specs.Typed as typed
+use Rattle.pas_typed.specs.Typed.{Function, FileTest, Mode, by_name, Variable, Slot, Value, Place, Passed, Heading}
 use Rattle.pas_types.specs.Scopes.{Entity, constant, variable, routine, function, file_test, unclear, Scopes}
 use Rattle.pas_types.specs.Scopes.{entity_of, standard_file}
 use Rattle.pas_types.specs.TypeForms as forms
-
--- the type of a place and of a value
-abbrev pub type_of_place : Place → PasType
-type_of_place (typed.slot found) = found.type
-type_of_place (typed.element place range type index) = type
-type_of_place (typed.field place number type) = type
-type_of_place (typed.buffer place type) = type
-
-abbrev pub type_of_function : Function → PasType
-type_of_function typed.ord = whole integer
-type_of_function typed.chr = whole char
-type_of_function typed.abs = whole integer
-type_of_function typed.odd = whole boolean
-
-abbrev pub type_of_product : Multiplying → PasType
-type_of_product multiplying.And = whole boolean
-type_of_product op = whole integer
-
-abbrev pub type_of_addition : Adding → PasType
-type_of_addition adding.Or = whole boolean
-type_of_addition op = whole integer
-
-abbrev pub type_of : Value → PasType
-type_of (typed.constant base value) = whole base
-type_of (typed.read place) = type_of_place place
-type_of (typed.call number type passed) = type
-type_of (typed.applied found value) = type_of_function found
-type_of (typed.tested test place) = whole boolean
-type_of (typed.parenthesized value) = type_of value
-type_of (typed.signed sign value) = whole integer
-type_of (typed.negated value) = whole boolean
-type_of (typed.product left op right) = type_of_product op
-type_of (typed.addition left op right) = type_of_addition op
-type_of (typed.comparison left relation right) = whole boolean
-
--- the base of an ordinal type
-abbrev pub base_of : Table → PasType → Option Base
-base_of table type = option_map (λ range. range.base) (range_of table type)
-
--- whether a type is ordinal, and of this base
-abbrev pub is_based_on : Base → Option Base → Bool
-is_based_on base (Some found) = same_base base found
-is_based_on base None = false
-
-abbrev pub is_of : Base → Table → PasType → Bool
-is_of base table type = is_based_on base (base_of table type)
+use Rattle.pas_typed.specs.TypeOf.{type_of_place, type_of_function, type_of, is_buffer}
+use Rattle.pas_typed.specs.Types.{base_of, is_of, are_compatible}
 
 -- a value of this base
 abbrev pub only : Base → Table → Value → List Wrong
@@ -76,17 +32,6 @@ only base table value = unless (is_of base table (type_of value)) (wrong WRONG_T
 
 abbrev pub ordinal_only : Table → Value → List Wrong
 ordinal_only table value = unless (is_some (base_of table (type_of value))) (wrong WRONG_TYPE)
-
--- whether values of two types are compatible: ordinals of one base, or of the same array or record type
-abbrev pub are_compatible_by : Option Base → Option Base → Bool → Bool
-are_compatible_by (Some base) other same = is_based_on base other
-are_compatible_by None (Some base) same = false
-are_compatible_by None None same = same
-
-abbrev pub are_compatible : Table → PasType → PasType → Bool
-are_compatible table type other =
-    are_compatible_by (base_of table type) (base_of table other)
-    (same_type type other)
 
 abbrev pub compatible_with : Table → PasType → Value → List Wrong
 compatible_with table type value = unless (are_compatible table type (type_of value)) (wrong WRONG_TYPE)
@@ -241,10 +186,6 @@ not_called faults arguments =
     ∷ quiet ∷ [])
 
 -- a variable parameter takes a variable of its type that is no buffer of a file, another one a compatible value
-abbrev pub is_buffer : Place → Bool
-is_buffer (typed.buffer place type) = true
-is_buffer place = false
-
 abbrev pub is_reference : PasType → Option Place → Bool
 is_reference type None = false
 is_reference type (Some place) = same_type type (type_of_place place) && not (is_buffer place)

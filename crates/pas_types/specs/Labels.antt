@@ -8,7 +8,7 @@ use Rattle.pas_syntax.specs.Tree as tree
 use Rattle.pas_syntax.specs.Tree.{Plain, Statement, Statements, Elements, Others}
 use Rattle.pas_types.specs.declared.limits.TheConstants.{GREATEST_LABEL}
 use Rattle.pas_types.specs.Marks.{unless, Judged, means, refuses}
-use Rattle.pas_types.specs.Typed as typed
+use Rattle.pas_typed.specs.Typed as typed
 use Rattle.pas_types.specs.Scopes.{Outer, Inner, Scopes}
 
 abbrev pub has_label : List ℕ → ℕ → Bool

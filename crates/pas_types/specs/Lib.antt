@@ -1,6 +1,4 @@
 pub mod Marks
-pub mod Types
-pub mod Typed
 pub mod Scopes
 pub mod TypeForms
 pub mod Expressions

@@ -11,16 +11,17 @@ use Rattle.pas_syntax.specs.Tree.{Compound, Routine}
 use Rattle.pas_types.specs.declared.limits.TheConstants.{ROUTINE_LIMIT}
 use Rattle.pas_types.specs.Marks.{Marks, no_token, quiet, shows, at_first, joined, unless, Judged, judged, known, both}
 use Rattle.pas_types.specs.Marks.{checked, noted}
-use Rattle.pas_types.specs.Types.{range_of}
-use Rattle.pas_types.specs.Typed as typed
-use Rattle.pas_types.specs.Typed.{Mode, by_value, by_name, Variable, Heading, Body, local}
+use Rattle.pas_typed.specs.Types.{range_of}
+use Rattle.pas_typed.specs.Typed as typed
+use Rattle.pas_typed.specs.Typed.{Mode, by_value, by_name, Variable, Heading, Body, local}
 use Rattle.pas_types.specs.Scopes.{Entity, routine, names_of, KnownRoutine, Outer, Inner, entity_in}
 use Rattle.pas_types.specs.Scopes.{contains, spellings_of, new_names}
-use Rattle.pas_types.specs.TypeForms.{Made, maybe_quiet, type_named}
+use Rattle.pas_types.specs.TypeForms.{maybe_quiet, type_named}
 use Rattle.pas_types.specs.Labels.{has_label, labels_in_list, labels_of_list}
 use Rattle.pas_types.specs.Statements.{statements_of}
 use Rattle.pas_types.specs.Declarations.{declared_labels, label_marks, taken, with_name, named_slots, local_only}
 use Rattle.pas_types.specs.Declarations.{with_locals, routine_scopes, local_rows}
+use Rattle.pas_typed.specs.Types.{Made}
 
 -- parameters
 

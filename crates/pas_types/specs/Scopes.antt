@@ -10,9 +10,9 @@ use Rattle.pas_tokens.specs.declared.limits.TheConstants.{GREATEST_NUMBER}
 use Rattle.pas_tokens.specs.Cutting.{wrong}
 use Rattle.pas_syntax.specs.Tree.{Ident, Idents}
 use Rattle.pas_types.specs.Marks.{Marks, shows, unless, listed}
-use Rattle.pas_types.specs.Types.{Base, integer, char, boolean, PasType, whole, text, Table}
-use Rattle.pas_types.specs.Typed as typed
-use Rattle.pas_types.specs.Typed.{Function, FileTest, FileStep, Variable, Slot, Heading, Home, global, local}
+use Rattle.pas_typed.specs.Types.{Base, integer, char, boolean, PasType, whole, text, Table}
+use Rattle.pas_typed.specs.Typed as typed
+use Rattle.pas_typed.specs.Typed.{Function, FileTest, FileStep, Variable, Slot, Heading, Home, global, local}
 
 -- the required procedures that are no steps of a file
 pub data Procedure : Type 0 where

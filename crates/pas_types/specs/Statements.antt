@@ -9,16 +9,18 @@ use Rattle.pas_syntax.specs.Tree as tree
 use Rattle.pas_syntax.specs.Tree.{Behind, Separated, Constant, Plain, Statement, Statements, Elements, Others}
 use Rattle.pas_types.specs.Marks.{Marks, no_token, quiet, shows, joined, unless, Judged, judged, means, refuses, known}
 use Rattle.pas_types.specs.Marks.{both, known_of, checked}
-use Rattle.pas_types.specs.Types.{Base, boolean, same_base, PasType, Table, range_of}
-use Rattle.pas_types.specs.Typed as typed
-use Rattle.pas_types.specs.Typed.{Mode, Slot, Value, Place, Arms}
+use Rattle.pas_typed.specs.Types.{Base, boolean, same_base, PasType, Table, range_of}
+use Rattle.pas_typed.specs.Typed as typed
+use Rattle.pas_typed.specs.Typed.{Mode, Slot, Value, Place, Arms}
 use Rattle.pas_types.specs.Scopes.{Entity, variable, routine, unclear, Inner, Scopes, entity_of}
 use Rattle.pas_types.specs.TypeForms.{ConstantValue, constant_of, maybe_quiet}
-use Rattle.pas_types.specs.Expressions.{type_of, type_of_place, base_of, only, ordinal_only, is_file, compatible_with}
+use Rattle.pas_types.specs.Expressions.{only, ordinal_only, is_file, compatible_with}
 use Rattle.pas_types.specs.Expressions.{heading_of, value_of, place_of}
 use Rattle.pas_types.specs.Labels.{Spot, in_list, elsewhere, label_faults, goto_of, labels_at, labels_in_list}
 use Rattle.pas_types.specs.Labels.{labels_in_elements, labels_of_list}
 use Rattle.pas_types.specs.Calls as calls
+use Rattle.pas_typed.specs.TypeOf.{type_of, type_of_place}
+use Rattle.pas_typed.specs.Types.{base_of}
 
 -- assignments
 

@@ -16,11 +16,12 @@ use Rattle.pas_types.specs.declared.limits.TheConstants.{CELL_LIMIT}
 use Rattle.pas_types.specs.Marks.{Marks, no_token, quiet, joined, unless, Judged, judged, means}
 use Rattle.pas_types.specs.Marks.{refuses}
 use Rattle.pas_types.specs.Marks.{known, both, checked, noted}
-use Rattle.pas_types.specs.Types.{Base, integer, char, same_base, Range, PasType, whole, row, Field, Structure}
-use Rattle.pas_types.specs.Types.{subrange, array, fields, file, Table, range_of, component_of, cells_of}
-use Rattle.pas_types.specs.Types.{cells_in}
+use Rattle.pas_typed.specs.Types.{Base, integer, char, same_base, Range, PasType, whole, row, Field, Structure}
+use Rattle.pas_typed.specs.Types.{subrange, array, fields, file, Table, range_of, component_of, cells_of}
+use Rattle.pas_typed.specs.Types.{cells_in}
 use Rattle.pas_types.specs.Scopes.{Entity, constant, type, unclear, Scopes, entity_of, spellings_of}
 use Rattle.pas_types.specs.Scopes.{new_names}
+use Rattle.pas_typed.specs.Types.{is_component, Made, made}
 
 -- the marks of a token that may stand there
 abbrev pub maybe_quiet : {A : Type 0} → Option A → Marks
@@ -83,19 +84,7 @@ constant_of scopes (tree.text quoted) = char_in (undoubled quoted.text)
 
 -- types
 
--- what a type expression means: a type, and the table with what it made. One that breaks a rule on files or passes a
--- limit is still known, so that each fault of its last token is seen
-pub record Made : Type 0 where
-  pub type : PasType
-  pub table : Table
-
 -- a type expression that makes a new row
-abbrev pub made : Table → Structure → Made
-made table structure = record {
-  type = row (length table);
-  table = table ++ record { structure = structure; cells = cells_in table structure } ∷ [];
-}
-
 abbrev pub table_behind : {A : Type 0} → (A → Table) → Table → Judged A → Table
 table_behind table_of table part = unwrap_or (option_map table_of part.value) table
 
@@ -200,24 +189,6 @@ array_of packed indexes element =
     noted within_limit (judged
     (joined (maybe_quiet packed ∷ quiet ∷ quiet ∷ indexes.marks ∷ quiet ∷ quiet ∷ part.marks ∷ []))
     (both (λ found last. arrays last.table found.ranges last.type) indexes.value part.value))
-
--- a file has components of type char, or of a subrange of the integers from 0 to 255
-abbrev pub is_byte_range : Option Range → Bool
-is_byte_range None = false
-is_byte_range (Some range) =
-    same_base range.base integer && int_le (pos 0) range.low && int_le range.high (pos 255)
-
-abbrev pub is_component : Table → PasType → Bool
-is_component table (whole char) = true
-is_component table found = is_byte_range (range_of table found)
-
--- whether a type is a lawful file
-abbrev pub has_component : Table → Option PasType → Bool
-has_component table None = false
-has_component table (Some component) = is_component table component
-
-abbrev pub is_lawful_file : Table → PasType → Bool
-is_lawful_file table found = has_component table (component_of table found)
 
 abbrev pub component_only : Made → List Wrong
 component_only part = unless (is_component part.table part.type) (wrong FILE_RULE)

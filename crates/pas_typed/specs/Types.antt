@@ -1,7 +1,8 @@
 -- The types of a Pascal program (ISO 7185, 6.4, in this project's profile). Each type expression that is no name is a
 -- row of a table, in the order in which they end, and refers to earlier rows by number.
 use Rattle.std.specs.Prelude.{ℕ, ◌+◌, ◌*◌, ◌==◌, ◌&&◌, nat_abs, ℤ, pos, neg_ℤ, ◌-ℤ◌, int_le, Bool, true, false}
-use Rattle.std.specs.Prelude.{List, slice_get, sum_by, Option, Some, None, option_map, option_and_then, unwrap_or}
+use Rattle.std.specs.Prelude.{List, [], ◌∷◌, ◌++◌, length, slice_get, sum_by, Option, Some, None, option_map}
+use Rattle.std.specs.Prelude.{option_and_then, unwrap_or}
 use Rattle.pas_tokens.specs.declared.limits.TheConstants.{GREATEST_NUMBER}
 
 -- the types that the ordinal values are of
@@ -124,3 +125,57 @@ cells_in table (subrange range) = 1
 cells_in table (array indexes element) = count_of indexes * cells_of table element
 cells_in table (fields found) = sum_by (λ field. cells_of table field.type) found
 cells_in table (file component) = 1
+
+-- the base of an ordinal type
+abbrev pub base_of : Table → PasType → Option Base
+base_of table type = option_map (λ range. range.base) (range_of table type)
+
+-- whether a type is ordinal, and of this base
+abbrev pub is_based_on : Base → Option Base → Bool
+is_based_on base (Some found) = same_base base found
+is_based_on base None = false
+
+abbrev pub is_of : Base → Table → PasType → Bool
+is_of base table type = is_based_on base (base_of table type)
+
+-- whether values of two types are compatible: ordinals of one base, or of the same array or record type
+abbrev pub are_compatible_by : Option Base → Option Base → Bool → Bool
+are_compatible_by (Some base) other same = is_based_on base other
+are_compatible_by None (Some base) same = false
+are_compatible_by None None same = same
+
+abbrev pub are_compatible : Table → PasType → PasType → Bool
+are_compatible table type other =
+    are_compatible_by (base_of table type) (base_of table other)
+    (same_type type other)
+
+-- a file has components of type char, or of a subrange of the integers from 0 to 255
+abbrev pub is_byte_range : Option Range → Bool
+is_byte_range None = false
+is_byte_range (Some range) =
+    same_base range.base integer && int_le (pos 0) range.low && int_le range.high (pos 255)
+
+abbrev pub is_component : Table → PasType → Bool
+is_component table (whole char) = true
+is_component table found = is_byte_range (range_of table found)
+
+-- whether a type is a lawful file
+abbrev pub has_component : Table → Option PasType → Bool
+has_component table None = false
+has_component table (Some component) = is_component table component
+
+abbrev pub is_lawful_file : Table → PasType → Bool
+is_lawful_file table found = has_component table (component_of table found)
+
+-- what a type expression means: a type, and the table with what it made. One that breaks a rule on files or passes a
+-- limit is still known, so that each fault of its last token is seen
+pub record Made : Type 0 where
+  pub type : PasType
+  pub table : Table
+
+-- a type expression that makes a new row
+abbrev pub made : Table → Structure → Made
+made table structure = record {
+  type = row (length table);
+  table = table ++ record { structure = structure; cells = cells_in table structure } ∷ [];
+}

@@ -6,7 +6,7 @@ use Rattle.pas_syntax.specs.declared.operators.Multiplying.{Multiplying}
 use Rattle.pas_syntax.specs.declared.operators.Adding.{Adding}
 use Rattle.pas_syntax.specs.declared.operators.Relation.{Relation}
 use Rattle.pas_syntax.specs.declared.operators.Way.{Way}
-use Rattle.pas_types.specs.Types.{Base, Range, PasType, Table}
+use Rattle.pas_typed.specs.Types.{Base, Range, PasType, Table}
 
 -- whether a variable is one of the program or of the routine
 pub data Home : Type 0 where
