@@ -14,5 +14,3 @@ pub use cutting::lines;
 pub use line_list::Lines;
 pub use merging::merge;
 
-#[cfg(test)]
-mod tests;

@@ -15,5 +15,3 @@ pub use limits::{LEVEL_LIMIT, STEP_LIMIT};
 pub use refusals::ExpandErr;
 pub use stream::Stream;
 
-#[cfg(test)]
-mod tests;

@@ -3,8 +3,6 @@
 
 mod errors;
 mod fields;
-#[cfg(test)]
-mod tests;
 
 pub use errors::{
     AT_END_OF_FILE, CALL_LIMIT, CHR_OUT_OF_RANGE, DIVISION_BY_ZERO, INDEX_OUT_OF_RANGE,

@@ -17,8 +17,6 @@ mod routines;
 mod spellings;
 mod statements;
 mod stop;
-#[cfg(test)]
-mod tests;
 pub mod tree;
 mod type_forms;
 

@@ -7,8 +7,6 @@ mod fronts;
 mod kinds;
 mod limits;
 mod spellings;
-#[cfg(test)]
-mod tests;
 mod tokens;
 
 pub use cursor::Cursor;

@@ -13,5 +13,3 @@ pub use emitting::{EmitErr, expand_to};
 pub use job::{Done, Job, TangleErr, TextCopy};
 pub use tangling::tangle;
 
-#[cfg(test)]
-mod tests;

@@ -19,5 +19,3 @@ pub use places::{FileTag, Place};
 pub use tokens::{Joined, Tok};
 pub use word_list::Words;
 
-#[cfg(test)]
-mod tests;

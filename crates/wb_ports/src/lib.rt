@@ -18,8 +18,6 @@ mod shelf;
 mod sink;
 mod std_port;
 mod std_sink;
-#[cfg(test)]
-mod tests;
 mod writing;
 
 pub use answers::{Failed, PortErr};

@@ -16,5 +16,3 @@ pub use reader::Reader;
 pub use section_names::SectionName;
 pub use tokens::Lexed;
 
-#[cfg(test)]
-mod tests;

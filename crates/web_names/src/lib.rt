@@ -13,5 +13,3 @@ pub use name_errors::NameErr;
 pub use names::Names;
 pub use sections::Sections;
 
-#[cfg(test)]
-mod tests;

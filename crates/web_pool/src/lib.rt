@@ -14,5 +14,3 @@ pub use pool::Pool;
 pub use refusals::{PoolErr, PoolTypeErr};
 pub use writing::write_pool;
 
-#[cfg(test)]
-mod tests;

@@ -19,5 +19,3 @@ pub use pieces::Piece;
 pub use scanning::scan;
 pub use web::Web;
 
-#[cfg(test)]
-mod tests;

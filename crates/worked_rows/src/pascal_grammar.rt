@@ -1,5 +1,5 @@
 //! Texts, and what is answered of them, worked out by hand.
-use crate::parse;
+use pas_syntax::parse;
 use std::alloc::Global;
 use std::test::Fail;
 use wb_base::{OutOfMemory, Text, WorkErr};

@@ -1,5 +1,5 @@
 //! Texts and their tokens, worked out by hand.
-use crate::{Cursor, Kind, Payload};
+use pas_tokens::{Cursor, Kind, Payload};
 use std::test::Fail;
 use wb_base::Fault;
 

@@ -1,23 +1,10 @@
 //! What no clause shows: scanned webs beside items worked out by hand.
-use crate::{ExpandErr, Item, Stream};
-use change_merge::lines;
+use crate::webs::{BY_DEFAULT, HELPERS, NUMERIC, scan_text};
+use macro_expand::{ExpandErr, Item, Stream};
 use std::alloc::Global;
 use std::test::Fail;
-use wb_base::{Case, FileTag, Joined, Options, OutOfMemory, Text, WorkErr};
-use web_scan::{Web, scan};
-
-const BY_DEFAULT: Options = Options {
-    length: 32,
-    underline: false,
-    case: Case::Mixed,
-    strict: false,
-};
-
-// The scan of a web with this text.
-fn scan_text(alloc: Global, text: &[u8]) -> Result<Web, WorkErr> {
-    let list = lines(alloc, FileTag::Web, text)?;
-    scan(alloc, &list, BY_DEFAULT)
-}
+use wb_base::{Joined, OutOfMemory, Text};
+use web_scan::Web;
 
 // A number between marks.
 fn push_marked(
@@ -70,13 +57,6 @@ struct Row {
     fault: Option<ExpandErr>,
 }
 
-// Macros whose argument stands behind the end of their text.
-const HELPERS: &[u8] =
-    b"@ @d hlp1(#)==p(#);end\n@d hlp2(#)==p(#);hlp1\n@d help2==begin hlp2\n@p help2(a)(b)";
-
-// Numeric macros.
-const NUMERIC: &[u8] = b"@ @d mm=-3\n@d nn=mm+@'17+@\"F+\"a\"\n@p x*mm;x-mm;x:=nn";
-
 #[test]
 fn expands(rt: HostRuntime) -> Result<(), Fail> {
     #[rattlefmt::skip]
@@ -91,7 +71,7 @@ fn expands(rt: HostRuntime) -> Result<(), Fail> {
         Row { web: NUMERIC, items: b"{1:x*<-3>;x-<-3>;x:=<124>:1}", fault: None },
     ];
     for (index, row) in rows.iter().enumerate() {
-        let web = scan_text(rt.alloc(), row.web)?;
+        let web = scan_text(rt.alloc(), row.web, BY_DEFAULT)?;
         let (items, fault) = expanded(rt.alloc(), &web)?;
         assert_eq!(rt; (index, items.bytes()), (index, row.items));
         assert_eq!(rt; (index, fault), (index, row.fault));
@@ -117,11 +97,11 @@ fn chain(alloc: Global, used: i64) -> Result<Text, OutOfMemory> {
 #[test]
 fn obeys_the_limit_of_levels(rt: HostRuntime) -> Result<(), Fail> {
     let alloc = rt.alloc();
-    let let_through = scan_text(alloc, chain(alloc, 198)?.bytes())?;
+    let let_through = scan_text(alloc, chain(alloc, 198)?.bytes(), BY_DEFAULT)?;
     let (items, fault) = expanded(alloc, &let_through)?;
     assert_eq!(rt; items.bytes(), b"{1:x:1}".as_slice());
     assert_eq!(rt; fault, None);
-    let too_deep = scan_text(alloc, chain(alloc, 199)?.bytes())?;
+    let too_deep = scan_text(alloc, chain(alloc, 199)?.bytes(), BY_DEFAULT)?;
     let mut stream = Stream::new(&too_deep);
     assert!(rt; matches!(stream.next(), Ok(Some(Item::Open(1)))));
     assert!(rt; matches!(stream.next(), Err(ExpandErr::Levels)));

@@ -2,9 +2,12 @@
 ghost use Rattle.std.specs.Prelude.{◌≡◌, false};
 ghost use Rattle.wb_ports.specs.declared.port.Mode.{Mode};
 
-use crate::*;
 use std::test::Fail;
 use std::{fs, io};
+use wb_ports::{
+    DirShelf, Failed, FilePort, MemPort, MemShelf, MemSink, Port, PortErr, QuietSink, SharedWriter,
+    Shelf, Sink, StdPort, StdSink,
+};
 
 #[test]
 fn a_sink_in_memory_fails_where_it_is_told_to(rt: HostRuntime) -> Result<(), Fail> {

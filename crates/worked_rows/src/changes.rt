@@ -1,5 +1,6 @@
 //! What no clause shows: that the calls find memory, and lines beside values worked out by hand.
-use crate::{Lines, lines, merge, parse_changes};
+use crate::webs::merged;
+use change_merge::{Lines, lines};
 use std::alloc::Global;
 use std::test::Fail;
 use wb_base::faults::LINE_TOO_LONG;
@@ -82,7 +83,7 @@ const PROGRAM: &[u8] = b"@ @p program t;\nbegin\nend.\n";
 
 const APPLIED: &[u8] = b"w1:@ @p program t;|c6:begin end.|";
 
-// A web, a change file, and the merged lines or the fault, as `merged` shows them.
+// A web, a change file, and the merged lines or the fault, as `answer_of` shows them.
 #[derive(Clone, Copy)]
 struct Merge {
     web: &'static [u8],
@@ -121,7 +122,7 @@ fn merges_changes(rt: HostRuntime) -> Result<(), Fail> {
         Merge { web: b"a\na", change: b"@x\na\n@y\nb\n@z", answer: b"c4:b|w2:a|" },
     ];
     for (index, row) in rows.iter().enumerate() {
-        let answer = merged(rt.alloc(), row.web, row.change)?;
+        let answer = answer_of(rt.alloc(), row.web, row.change)?;
         assert_eq!(rt; (index, answer.bytes()), (index, row.answer));
     }
     Ok(())
@@ -168,17 +169,12 @@ fn file_letter(file: FileTag) -> &'static [u8] {
 }
 
 // The lines of the web with the change file, or the number, file and line of the fault.
-fn merged(alloc: Global, web: &[u8], change: &[u8]) -> Result<Text, WorkErr> {
-    match merged_lines(alloc, web, change) {
+fn answer_of(alloc: Global, web: &[u8], change: &[u8]) -> Result<Text, WorkErr> {
+    match merged(alloc, web, change) {
         Ok(list) => Ok(shown_lines(alloc, &list)?),
         Err(WorkErr::Fault(fault)) => Ok(shown_fault(alloc, fault)?),
         Err(error) => Err(error),
     }
-}
-
-fn merged_lines(alloc: Global, web: &[u8], change: &[u8]) -> Result<Lines, WorkErr> {
-    let changes = parse_changes(alloc, change)?;
-    merge(alloc, web, &changes)
 }
 
 fn shown_fault(alloc: Global, fault: Fault) -> Result<Text, OutOfMemory> {

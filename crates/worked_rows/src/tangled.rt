@@ -1,27 +1,19 @@
 //! What no clause says: that calls succeed with ample memory, and that webs give the known lines.
 
-use crate::{Done, EmitErr, Job, TangleErr, TextCopy, expand_to, tangle};
-use change_merge::lines;
+use crate::webs::{BY_DEFAULT, HELPERS, NUMERIC, scan_text};
 use std::alloc::Global;
 use std::test::Fail;
+use tangle_core::{Done, EmitErr, Job, TangleErr, TextCopy, expand_to, tangle};
 use wb_base::faults::{
     CONSTANT_TOO_BIG, LINE_NOT_CUT, METACOMMENT_NOT_ENDED, NO_PARAMETER_GIVEN,
     NUMBERS_WITHOUT_SIGN, REAL_CONSTANT, SECTION_NOT_PRESENT, STRAY_END_OF_METACOMMENT,
     STRING_TOO_LONG, TOO_MANY_LEVELS, TOO_MANY_STEPS,
 };
-use wb_base::{Case, Fault, FileTag, Options, OutOfMemory, Place, Text, WorkErr};
+use wb_base::{Fault, FileTag, OutOfMemory, Place, Text};
 use wb_ports::{MemShelf, MemSink};
-use web_scan::{Web, scan};
 
 // The room of a sink or a file, which is more than any row needs.
 const ROOM: usize = 400;
-
-const BY_DEFAULT: Options = Options {
-    length: 32,
-    underline: false,
-    case: Case::Mixed,
-    strict: false,
-};
 
 // The fault of this number at a line of the Pascal file.
 fn fault(code: u16, line: u32) -> Fault {
@@ -46,15 +38,6 @@ fn written_out(alloc: Global, short: &[u8]) -> Result<Text, OutOfMemory> {
     Ok(text)
 }
 
-// The scan of a web with this text.
-fn scan_text(alloc: Global, text: &[u8]) -> Result<Web, WorkErr> {
-    let list = lines(alloc, FileTag::Web, text)?;
-    scan(alloc, &list, BY_DEFAULT)
-}
-
-// Macros whose arguments stand behind them one after another.
-const HELPERS: &[u8] =
-    b"@ @d hlp1(#)==p(#);end\n@d hlp2(#)==p(#);hlp1\n@d help2==begin hlp2\n@p help2(a)(b)";
 // A web, the lines that a sink gets of it, and what is answered. `%` stands for ten letters in both.
 #[derive(Clone, Copy)]
 struct Row {
@@ -89,7 +72,7 @@ fn webs_give_their_lines(rt: HostRuntime) -> Result<(), Fail> {
         Row { web: b"@ @p x:=1; %%%%% %%", lines: b"{1:}x:=1;\n%%%%% %%\n{:1}\n", answer: Ok(3) },
         Row { web: b"@ @p x:=1; %%%%% %%bb", lines: b"{1:}x:=1;%%%%%\n%%bb{:1}\n", answer: Ok(2) },
         Row { web: b"@ @p %%%%%@&%%bbb", lines: b"", answer: refused(LINE_NOT_CUT, 1) },
-        Row { web: b"@ @d mm=-3\n@d nn=mm+@'17+@\"F+\"a\"\n@p x*mm;x-mm;x:=nn",
+        Row { web: NUMERIC,
             lines: b"{1:}x*(-3);x+3;x:=124{:1}\n", answer: Ok(1) },
         Row { web: b"@ @p @{@<X y@>@}\n@ @<X y@>=b;", lines: b"{1:}{[2:]b;[:2]}{:1}\n", answer: Ok(1) },
         Row { web: b"@ @p 1 mm\n@ @d mm==2", lines: b"{1:}12{:1}\n", answer: Ok(1) },
@@ -111,7 +94,7 @@ fn webs_give_their_lines(rt: HostRuntime) -> Result<(), Fail> {
     for (index, row) in rows.iter().enumerate() {
         let text = written_out(rt.alloc(), row.web)?;
         let lines = written_out(rt.alloc(), row.lines)?;
-        let web = scan_text(rt.alloc(), text.bytes())?;
+        let web = scan_text(rt.alloc(), text.bytes(), BY_DEFAULT)?;
         let mut sink = MemSink::new(rt.alloc(), ROOM, &[])?;
         let answer = expand_to(&web, &mut sink);
         assert_eq!(rt; (index, answer), (index, row.answer));
@@ -160,7 +143,7 @@ fn chains_reach_the_limits(rt: HostRuntime) -> Result<(), Fail> {
     ];
     for (index, row) in rows.iter().enumerate() {
         let text = web_of_chain(rt.alloc(), row)?;
-        let web = scan_text(rt.alloc(), text.bytes())?;
+        let web = scan_text(rt.alloc(), text.bytes(), BY_DEFAULT)?;
         let mut sink = MemSink::new(rt.alloc(), ROOM, &[])?;
         let answer = expand_to(&web, &mut sink);
         assert_eq!(rt; (index, answer), (index, row.answer));

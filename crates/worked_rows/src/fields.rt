@@ -1,5 +1,5 @@
 //! Integers, and how they are written, worked out by hand.
-use crate::write_int;
+use pas_meaning::write_int;
 use std::test::Fail;
 
 // An integer, the width of its field, and how many spaces and which digits are written.

@@ -1,10 +1,10 @@
 //! What no clause shows: that the calls find memory, and the texts of faults beside values worked out by hand.
-use crate::faults::{
+use std::test::Fail;
+use wb_base::faults::{
     C_STRUCTURE, CHANGE_NOT_FOUND, LIMIT_FILE_BYTES, LIMIT_NAMES, LIMIT_PASSED, LIMIT_STRINGS,
     LINE_TOO_LONG, NESTING_PAST_LIMIT, PASCAL_LEFT_OUT, SETS, STRAY_END, TOO_LARGE,
 };
-use crate::{Fault, FileTag, Place, Text, Words};
-use std::test::Fail;
+use wb_base::{Fault, FileTag, Place, Text, Words};
 
 // A fault of the web by its number and kind, and the line that reports it.
 #[derive(Clone, Copy)]

@@ -1,10 +1,11 @@
 //! What no clause shows: that the calls find memory, and words of webs beside values worked out by hand.
-use crate::{Code, Lexed, Reader, control_code};
-use change_merge::{Lines, merge, parse_changes};
+use crate::webs::merged;
+use change_merge::Lines;
 use std::alloc::Global;
 use std::test::Fail;
 use wb_base::faults::STRAY_END;
 use wb_base::{Fault, FileTag, Joined, OutOfMemory, Place, Text, WorkErr};
+use web_lex::{Code, Lexed, Reader, control_code};
 
 // A web with its change file, and its tokens up to the end or a fault, each with its line.
 #[derive(Clone, Copy)]
@@ -93,12 +94,6 @@ fn tells_codes(rt: HostRuntime) {
     assert_eq!(rt; control_code(b'T'), Code::Control);
     assert_eq!(rt; control_code(b'\t'), Code::Section);
     assert_eq!(rt; control_code(b'x'), Code::Ignore);
-}
-
-// The lines of the web with the change file.
-fn merged(alloc: Global, web: &[u8], change: &[u8]) -> Result<Lines, WorkErr> {
-    let changes = parse_changes(alloc, change)?;
-    merge(alloc, web, &changes)
 }
 
 // The line of this number of the web.

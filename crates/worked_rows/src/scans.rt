@@ -1,6 +1,5 @@
 //! What no clause shows: that the scan finds memory, and webs beside values worked out by hand.
-use crate::{Piece, Web, scan};
-use change_merge::{lines, merge, parse_changes};
+use crate::webs::{BY_DEFAULT, merged, scan_text};
 use std::alloc::Global;
 use std::test::Fail;
 use wb_base::faults::{
@@ -8,13 +7,7 @@ use wb_base::faults::{
     POOL_STRING_TOO_LONG,
 };
 use wb_base::{Case, FileTag, Options, OutOfMemory, Text, Tok, WorkErr};
-
-const BY_DEFAULT: Options = Options {
-    length: 32,
-    underline: false,
-    case: Case::Mixed,
-    strict: false,
-};
+use web_scan::{Piece, Web, scan};
 
 const UNDERLINES: Options = Options {
     length: 32,
@@ -36,12 +29,6 @@ const THREE_BYTES: Options = Options {
     case: Case::Mixed,
     strict: false,
 };
-
-// The scan of a web with this text.
-fn scan_text(alloc: Global, text: &[u8], options: Options) -> Result<Web, WorkErr> {
-    let list = lines(alloc, FileTag::Web, text)?;
-    scan(alloc, &list, options)
-}
 
 // The number, the line and the limit of the fault of a scan, or 0s.
 fn fault_of(scanned: Result<Web, WorkErr>) -> (u16, u32, u8) {
@@ -165,8 +152,7 @@ fn reads_a_web(rt: HostRuntime) -> Result<(), Fail> {
 #[test]
 fn ends_in_a_change_file(rt: HostRuntime) -> Result<(), Fail> {
     let alloc = rt.alloc();
-    let changes = parse_changes(alloc, b"\n@x\nb\n@y\n(\n@z")?;
-    let list = merge(alloc, b"@ @p a\nb", &changes)?;
+    let list = merged(alloc, b"@ @p a\nb", b"\n@x\nb\n@y\n(\n@z")?;
     match scan(alloc, &list, BY_DEFAULT) {
         Err(WorkErr::Fault(fault)) => {
             assert_eq!(rt;

@@ -1,11 +1,11 @@
 //! What no clause says: that calls succeed with ample memory, and that the definitions give the known rows.
 ghost use Rattle.std.specs.Prelude.{◌≡◌};
 
-use crate::{Pool, PoolErr, PoolTypeErr, pooltype, write_pool};
 use std::test::Fail;
 use wb_base::faults::{BAD_LAST_LINE, BAD_POOL_LENGTH, LIMIT_STRINGS, POOL_LINE_TOO_SHORT};
 use wb_base::{Fault, FileTag, Place, Text};
 use wb_ports::{MemSink, QuietSink};
+use web_pool::{Pool, PoolErr, PoolTypeErr, pooltype, write_pool};
 
 const PLENTY: usize = 100_000;
 

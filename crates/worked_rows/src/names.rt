@@ -1,8 +1,8 @@
 //! What no clause shows: that the calls find memory, and names beside answers worked out by hand.
-use crate::NameErr::{Ambiguous, Appeared, Before, Conflict, Incompatible, NoMatch};
-use crate::{Class, NameErr, Names, Sections, printed_letter};
 use std::test::Fail;
 use wb_base::{Case, Options};
+use web_names::NameErr::{Ambiguous, Appeared, Before, Conflict, Incompatible, NoMatch};
+use web_names::{Class, NameErr, Names, Sections, printed_letter};
 
 // Whether underlines stay, and whether words are compared strictly; the length is 32, and letters stay.
 const fn options(underline: bool, strict: bool) -> Options {
