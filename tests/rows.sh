@@ -1,20 +1,23 @@
 #!/usr/bin/env bash
 # Runs the built program on the worked rows, in a folder of its own: words, web and change file in; status, console,
 # Pascal file and pool out. An old `t.p` and an old `t.pool` stand there before each run. The rows come from the rules
-# in docs/RULES.md and docs/WEB.md.
+# in docs/RULES.md and docs/WEB.md. The program is the one that the first word names, as the gate built it; without a
+# word it is run by the script `web2c`, which builds it, if need be.
 set -u
-web2c=$(cd "$(dirname "${BASH_SOURCE[0]}")/.." && pwd)/web2c
+script=$(cd "$(dirname "${BASH_SOURCE[0]}")/.." && pwd)/web2c
+web2c=$(readlink -f "${1:-$script}")
+[ -x "$web2c" ] || { echo "there is no program $web2c"; exit 3; }
 folder=$(mktemp -d) && cd "$folder" || exit 3
 trap 'rm -rf "$folder"' EXIT
-"$web2c" >/dev/null # builds the program, if need be
+"$web2c" >/dev/null
 passed=0 failed=0
 
-# Runs the program on words, and looks at its status, the console, the Pascal file and the pool. A failed call has one
-# line of the script's own on standard error, and nothing else has any.
+# Runs the program on words, and looks at its status, the console, the Pascal file and the pool. Nothing stands on
+# standard error, but one line of the script's own behind a failed call.
 run() { # STATUS CONSOLE PASCAL POOL WORD...
     local wanted=$1 console=$2 pascal=$3 pool=$4 lines=0
     shift 4
-    [ "$wanted" != 3 ] || lines=1
+    [ "$wanted" != 3 ] || [ "$web2c" != "$script" ] || lines=1
     "$web2c" "$@" >console 2>errors
     local status=$?
     if [ $status = "$wanted" ] && cmp -s console <(printf "$console") && cmp -s t.p <(printf "$pascal") &&
