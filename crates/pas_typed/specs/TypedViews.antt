@@ -1,5 +1,5 @@
 -- The places, values, statements and routines of the code as those of the definition.
-use Rattle.std.specs.Prelude.{ℕ, ℤ, List, [], ◌∷◌, map, Option, option_map}
+use Rattle.std.specs.Prelude.{ℕ, List, [], ◌∷◌, map, option_map}
 use Rattle.pas_syntax.specs.Views.{spelled_in, in_turn}
 use Rattle.pas_typed.specs.declared.typed.Home.{Home as CodeHome}
 use Rattle.pas_typed.specs.declared.typed.Home.TheVariants as home
