@@ -1,1 +1,5 @@
 pub mod TableLemmas
+pub mod LongerTables
+pub mod OrderLemmas
+pub mod ValueViews
+pub mod StatementViews

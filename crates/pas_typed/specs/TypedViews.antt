@@ -133,6 +133,12 @@ passed_views passed = in_order (map passed_view passed) typed.nothing
 abbrev pub OfStatements : (Type 0 → Type 0 → Type 0 → Type 0) → Type 0
 OfStatements Layer = Layer Statement (Arms → Arms) (Statements → Statements)
 
+abbrev pub arm_step : OfStatements Arm-F → Arms → Arms
+arm_step arm others = typed.arm arm.constants arm.statement others
+
+abbrev pub labelled_step : OfStatements Labelled-F → Statements → Statements
+labelled_step labelled others = typed.item labelled.label labelled.statement others
+
 -- all statements of a list, and all elements of a `case`
 abbrev pub statements_of : List (Statements → Statements) → Statements
 statements_of list = in_order list typed.no_statements
@@ -179,12 +185,6 @@ module _ (spellings : List ℕ) where
   statement_step (Statement-F.WritesLine file items) = typed.writes_line (place_view file) (map item_view items)
   statement_step (Statement-F.WritesBytes file values) = typed.writes_bytes (place_view file) (map value_view values)
   statement_step (Statement-F.Halts value) = typed.halts (value_view value)
-
-  abbrev pub arm_step : OfStatements Arm-F → Arms → Arms
-  arm_step arm others = typed.arm arm.constants arm.statement others
-
-  abbrev pub labelled_step : OfStatements Labelled-F → Statements → Statements
-  labelled_step labelled others = typed.item labelled.label labelled.statement others
 
   abbrev pub statement_view : code_statement.Statement → Statement
   statement_view =
