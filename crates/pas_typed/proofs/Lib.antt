@@ -1,3 +1,4 @@
+pub mod CountLemmas
 pub mod TableLemmas
 pub mod LongerTables
 pub mod OrderLemmas

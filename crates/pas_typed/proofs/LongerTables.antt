@@ -1,13 +1,13 @@
 -- Earlier rows of a table stay what they are when it grows.
-use Rattle.std.proofs.Common.{◌≡◌, refl, ap, ◌∙◌, ℕ, zero, suc, ◌+◌, ◌<◌, arith, List, [], ◌∷◌, ◌++◌, length, Option, Some}
-use Rattle.std.proofs.Common.{option_map}
-use Rattle.std.specs.Prelude.{option_and_then, unwrap_or, Bool}
+use Rattle.std.proofs.Common.{◌≡◌, refl, ap, ◌∙◌, ℕ, zero, suc, ◌+◌, ◌<◌, arith, List, [], ◌∷◌, ◌++◌}
+use Rattle.std.proofs.Common.{length, Option, Some, option_map}
+use Rattle.std.specs.Prelude.{option_and_then, unwrap_or}
 use Rattle.std.specs.List.{slice_get}
 use Rattle.pas_typed.specs.declared.types.Structure.{Structure as CodeStructure}
 use Rattle.pas_typed.specs.Types.{Base, PasType, whole, text, row, Structure, TableRow, Table, row_of, structure_of}
 use Rattle.pas_typed.specs.Types.{range_in, range_of, base_of, is_based_on, is_of, component_in, component_of}
-use Rattle.pas_typed.specs.Types.{elements_in, elements_of, fields_in, fields_of, cells_of, same_type, are_compatible_by}
-use Rattle.pas_typed.specs.Types.{are_compatible, cells_in, made}
+use Rattle.pas_typed.specs.Types.{elements_in, elements_of, fields_in, fields_of, cells_of, same_type}
+use Rattle.pas_typed.specs.Types.{are_compatible_by, are_compatible, cells_in, made}
 use Rattle.pas_typed.specs.TypeViews.{structure_view, table_view}
 use Rattle.pas_typed.proofs.TableLemmas.{table_view-push}
 
@@ -21,7 +21,6 @@ slice_get-append : (table more : Table) (number : ℕ) → number < length table
 slice_get-append [] more number less = absurd (omega arith)
 slice_get-append (first ∷ table) more zero less = refl
 slice_get-append (first ∷ table) more (suc number) less =
-    let long : length (first ∷ table) ≡ length table + 1 = omega arith in
     slice_get-append table more number (omega (arith, less))
 
 module _ (table more : Table) where
@@ -89,8 +88,7 @@ table_view-longer spellings structures all found is =
 
 slice_get-last : (table : Table) (last : TableRow) → slice_get (table ++ last ∷ []) (length table) ≡ Some last
 slice_get-last [] last = refl
-slice_get-last (first ∷ table) last =
-    let long : length (first ∷ table) ≡ suc (length table) = refl in slice_get-last table last
+slice_get-last (first ∷ table) last = slice_get-last table last
 
 pub structure_of-made : (table : Table) (structure : Structure)
     → structure_of (made table structure).table (made table structure).type ≡ Some structure

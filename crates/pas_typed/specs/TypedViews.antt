@@ -45,7 +45,12 @@ mode_view mode.ByName = typed.by_name
 
 abbrev pub slot_view : CodeSlot → Slot
 slot_view slot =
-    record { home = home_view slot.home; number = slot.number; mode = mode_view slot.mode; type = type_view slot.pas_type }
+    record {
+      home = home_view slot.home;
+      number = slot.number;
+      mode = mode_view slot.mode;
+      type = type_view slot.pas_type;
+    }
 
 abbrev pub function_view : CodeFunction → Function
 function_view function.Ord = typed.ord

@@ -3,8 +3,8 @@ ghost use Rattle.std.specs.Prelude.{◌≡◌, ℕ, List, [], ◌∷◌, ◌++�
 ghost use Rattle.std.specs.Prelude.{Some, IfOk, OnOk, OnErr};
 ghost use Rattle.std.specs.Option.{option_copied};
 ghost use Rattle.pas_typed.specs.Types as spec;
-ghost use Rattle.pas_typed.specs.TypeViews.{base_view, range_view, type_view, elements_view, field_view, structure_view};
-ghost use Rattle.pas_typed.specs.TypeViews.{row_view, table_view, counted, counted_row};
+ghost use Rattle.pas_typed.specs.TypeViews.{base_view, range_view, type_view, elements_view, field_view};
+ghost use Rattle.pas_typed.specs.TypeViews.{structure_view, row_view, table_view, counted, counted_row};
 
 use pas_syntax::tree::Span;
 use pas_tokens::GREATEST_NUMBER;

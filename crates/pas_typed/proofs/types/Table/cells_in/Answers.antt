@@ -1,4 +1,4 @@
-use Rattle.pas_typed.proofs.TableLemmas.{counted-mul}
+use Rattle.pas_typed.proofs.CountLemmas.{counted-mul}
 use Rattle.pas_typed.proofs.types.Table.cells_in.Goals as goal
 
 pub returns-in-Array : goal.returns-in-Array

@@ -1,7 +1,7 @@
 use Rattle.std.proofs.Common.{sym, ◌∙◌}
 use Rattle.pas_typed.specs.Types.{cells_of}
 use Rattle.pas_typed.specs.TypeViews.{type_view, field_view, table_view}
-use Rattle.pas_typed.proofs.TableLemmas.{counted_more, counted_all}
+use Rattle.pas_typed.proofs.CountLemmas.{counted_more, counted_all}
 use Rattle.pas_typed.proofs.types.Table.cells_of_all.Goals as goal
 
 pub loop-field-preserved : goal.loop-field-preserved
