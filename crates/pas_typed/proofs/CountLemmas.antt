@@ -1,5 +1,7 @@
 -- Counts of cells, of which the code keeps no more than a number of 64 bits tells.
 use Rattle.std.proofs.Common.{◌≡◌, refl, sym, ap, ◌∙◌, ℕ, zero, suc, ◌+◌, ◌*◌, ◌^◌, ◌-◌, ◌<◌, ◌≤◌, min, arith}
+use Rattle.std.specs.Prelude.{nat_le}
+use Rattle.std.proofs.lemmas.Bool.Decides.{nat_tests}
 use Rattle.std.proofs.Common.{inl, inr, List, [], ◌∷◌, length, take, get_or, map}
 use Rattle.std.specs.List.{sum_by, fold}
 use Rattle.std.proofs.Math.Nat.{zero-min, min-eq_left, min-eq_right, le-mul_of_pos_right, mul_comm}
@@ -8,8 +10,12 @@ use Rattle.std.proofs.lemmas.List.{take_all}
 use Rattle.std.proofs.lemmas.List.Sums.{sum_by_more}
 use Rattle.pas_typed.specs.TypeViews.{counted}
 
+-- a limit that a number of 64 bits tells is passed by what the code keeps where it is passed by the count
+pub nat_le-counted : (cells limit : ℕ) → limit < 2 ^ 64 - 1 → nat_le (counted cells) limit ≡ nat_le cells limit
+nat_le-counted cells limit less = grind (arith, nat_tests)
+
 -- the sum and the product of counts
-counted-add : (m n c d : ℕ) → counted m ≡ c → counted n ≡ d → counted (m + n) ≡ counted (c + d)
+pub counted-add : (m n c d : ℕ) → counted m ≡ c → counted n ≡ d → counted (m + n) ≡ counted (c + d)
 counted-add m n c d is also = omega arith
 
 bounded-mul_left : (most m n : ℕ) → 1 ≤ most → most < m → min (m * n) most ≡ min (most * min n most) most

@@ -1,6 +1,7 @@
 -- Earlier rows of a table stay what they are when it grows.
 use Rattle.std.proofs.Common.{◌≡◌, refl, ap, ◌∙◌, ℕ, zero, suc, ◌+◌, ◌<◌, arith, List, [], ◌∷◌, ◌++◌}
-use Rattle.std.proofs.Common.{length, Option, Some, option_map}
+use Rattle.std.proofs.Common.{◌≤◌, length, length-append, map, Option, Some, option_map}
+use Rattle.std.proofs.lemmas.List.{length-map}
 use Rattle.std.specs.Prelude.{option_and_then, unwrap_or}
 use Rattle.std.specs.List.{slice_get}
 use Rattle.pas_typed.specs.declared.types.Structure.{Structure as CodeStructure}
@@ -9,12 +10,17 @@ use Rattle.pas_typed.specs.Types.{range_in, range_of, base_of, is_based_on, is_o
 use Rattle.pas_typed.specs.Types.{elements_in, elements_of, fields_in, fields_of, cells_of, same_type}
 use Rattle.pas_typed.specs.Types.{are_compatible_by, are_compatible, cells_in, made}
 use Rattle.pas_typed.specs.TypeViews.{structure_view, table_view}
-use Rattle.pas_typed.proofs.TableLemmas.{table_view-push}
+use Rattle.pas_typed.proofs.TableLemmas.{length-table_of, table_view-push}
 
 -- whether a type is a required one or one of the first rows
 abbrev pub IsAmong : ℕ → PasType → Type 0
 IsAmong count (row number) = number < count
 IsAmong count found = Unit {0}
+
+pub IsAmong-more : (count most : ℕ) (found : PasType) → count ≤ most → IsAmong count found → IsAmong most found
+IsAmong-more count most (whole base) less there = tt
+IsAmong-more count most text less there = tt
+IsAmong-more count most (row number) less there = omega (arith, there)
 
 slice_get-append : (table more : Table) (number : ℕ) → number < length table
     → slice_get (table ++ more) number ≡ slice_get table number
@@ -95,3 +101,18 @@ pub structure_of-made : (table : Table) (structure : Structure)
 structure_of-made table structure =
     ap (option_map (λ (at : TableRow). at.structure))
     (slice_get-last table (record { structure = structure; cells = cells_in table structure }))
+
+-- the new type is among the rows of the longer table
+pub length-made : (table : Table) (structure : Structure)
+    → length (made table structure).table ≡ length table + 1
+length-made table structure =
+    length-append table (record { structure = structure; cells = cells_in table structure } ∷ [])
+
+pub IsAmong-made : (table : Table) (structure : Structure)
+    → IsAmong (length (made table structure).table) (made table structure).type
+IsAmong-made table structure = omega (arith, length-made table structure)
+
+pub length-table_view : (spellings : List ℕ) (structures : List CodeStructure)
+    → length (table_view spellings structures) ≡ length structures
+length-table_view spellings structures =
+    length-table_of (map (structure_view spellings) structures) ∙ length-map structures (structure_view spellings)
