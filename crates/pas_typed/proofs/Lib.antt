@@ -1,0 +1,6 @@
+pub mod CountLemmas
+pub mod TableLemmas
+pub mod LongerTables
+pub mod OrderLemmas
+pub mod ValueViews
+pub mod StatementViews
