@@ -2,26 +2,27 @@
 use Rattle.std.proofs.Common.{◌≡◌, ℕ, zero, suc, ◌≤◌, ◌<◌, List, [], ◌∷◌, Option, Some, None, Bool, true, false}
 use Rattle.std.proofs.Common.{arith}
 use Rattle.std.proofs.Common.{refl, ap, ◌∙◌}
-use Rattle.std.specs.Prelude.{ℤ, if◌then◌else◌, length, nat_abs}
+use Rattle.std.specs.Prelude.{ℤ, if◌then◌else◌, length}
 use Rattle.std.specs.List.{list_any}
 use Rattle.pas_syntax.specs.declared.operators.Multiplying.TheVariants as multiplying
 use Rattle.pas_syntax.specs.declared.operators.Adding.TheVariants as adding
 use Rattle.pas_syntax.specs.declared.operators.Way.{Way}
-use Rattle.pas_typed.specs.Types.{PasType}
+use Rattle.pas_typed.specs.Types.{PasType, whole, boolean}
 use Rattle.pas_typed.specs.Typed as typed
-use Rattle.pas_typed.specs.Typed.{FileTest, FileStep, Slot, Value, Place, Passed, Item, Statement, Statements, Arms}
-use Rattle.pas_typed.specs.Typed.{Body, TypedProgram}
-use Rattle.pas_meaning.specs.Files as files
-use Rattle.pas_meaning.specs.Outcome.{Run, Outcome, gives, ends, errs, Doing, pure, and_then, ◌>>=◌, ◌>>◌, ask}
+use Rattle.pas_typed.specs.Typed.{FileStep, Slot, Value, Place, Passed, Item, Statement, Statements, Arms, Body}
+use Rattle.pas_typed.specs.Typed.{TypedProgram}
+use Rattle.pas_meaning.specs.declared.errors.TheConstants.{OUT_OF_RANGE, STATUS_OUT_OF_RANGE}
+use Rattle.pas_meaning.specs.Answers.{Answer}
+use Rattle.pas_meaning.specs.Outcome.{Run, Outcome, gives, ends, errs, Doing, pure, and_then, ◌>>=◌, ◌>>◌, answered}
 use Rattle.pas_meaning.specs.Outcome.{led, stepped, take_step}
-use Rattle.pas_meaning.specs.FileSteps.{change_file, append}
 use Rattle.pas_meaning.specs.Store as store
-use Rattle.pas_meaning.specs.Store.{Datum, Store, holds}
-use Rattle.pas_meaning.specs.Arithmetic.{is_true, is_same}
+use Rattle.pas_meaning.specs.Store.{Datum, Store, holds, number_of}
+use Rattle.pas_meaning.specs.Arithmetic.{is_same}
+use Rattle.pas_meaning.specs.Operands.{operand, element, byte_of, truth_of}
 use Rattle.pas_meaning.specs.Run as run
-use Rattle.pas_meaning.specs.Run.{Flow, Entry, Doings, Argument, number_of}
+use Rattle.pas_meaning.specs.Run.{Flow, Entry, Doings, Argument}
 use Rattle.pas_meaning.specs.Laws.{world_of, Goes, Same}
-use Rattle.pas_meaning.proofs.OnwardLemmas.{goes_ask, goes_change, goes_begin, goes_answered, goes_ask_file}
+use Rattle.pas_meaning.proofs.OnwardLemmas.{goes_change, goes_begin, goes_answered}
 use Rattle.pas_meaning.proofs.OnwardLemmas.{goes_then, goes_step, goes_bind}
 use Rattle.pas_meaning.proofs.GoesLemmas as goes
 
@@ -86,15 +87,17 @@ same_step {n = n} {next = next} {next' = next'} same = record {
   each = λ now few. step_same n now.world.steps now next next' refl few same;
 }
 
-same_numbered : {n : ℕ} {doing doing' : Doing Store Datum} → Goes doing → Same n doing doing'
-    → Same n (run.numbered doing) (run.numbered doing')
-same_numbered {n = n} on same = same_bind on same (λ datum. same_self n _)
+same_operand_alone : {A : Type 0} {n : ℕ} (check : Datum → Answer A) {doing doing' : Doing Store Datum} → Goes doing
+    → Same n doing doing' → Same n (operand check doing) (operand check doing')
+same_operand_alone {n = n} check on same = same_bind on same (λ datum. same_self n _)
 
--- what is done with the number that an operand is
-same_operand : {A : Type 0} {n : ℕ} {operand operand' : Doing Store Datum} {next next' : ℤ → Doing Store A}
-    → Goes operand → Same n operand operand' → ((found : ℤ) → Same n (next found) (next' found))
-    → Same n (run.numbered operand >>= next) (run.numbered operand' >>= next')
-same_operand on same later = same_bind (goes.goes_numbered on) (same_numbered on same) later
+-- what is done with an operand behind its check
+same_operand : {A B : Type 0} {n : ℕ} (check : Datum → Answer A) {doing doing' : Doing Store Datum}
+    {next next' : A → Doing Store B} → Goes doing → Same n doing doing'
+    → ((found : A) → Same n (next found) (next' found))
+    → Same n (operand check doing >>= next) (operand check doing' >>= next')
+same_operand check on same later =
+    same_bind (goes.goes_operand_alone check on) (same_operand_alone check on same) later
 
 module _ (limit : Option ℕ) (program : TypedProgram) (b b' : Doings)
     (on : (from : Entry) (s : Statement) → Goes (b from s))
@@ -112,11 +115,6 @@ module _ (limit : Option ℕ) (program : TypedProgram) (b b' : Doings)
   same_call routine arguments = same_step (λ fewer less.
       same_then (goes_begin limit) (same_self fewer _) (same_body fewer less (run.body_of program routine) arguments))
 
-  same_test : (test : FileTest) (file : ℕ)
-      → Same n (run.test_file limit program b test file) (run.test_file limit program b' test file)
-  same_test typed.eof file = same_self n _
-  same_test typed.eoln file = same_self n _
-
   mutual
     pub same_value : (found : Value) → Same n (run.value limit program b found) (run.value limit program b' found)
     same_value (typed.constant base number) = same_self n _
@@ -127,132 +125,142 @@ module _ (limit : Option ℕ) (program : TypedProgram) (b b' : Doings)
         same_bind (goes.goes_call limit program b on routine arguments) (same_call routine arguments)
         (λ result. same_self n _))
     same_value (typed.applied function argument) =
-        same_operand (goes.goes_value limit program b on argument) (same_value argument) (λ found. same_self n _)
-    same_value (typed.tested test place) =
-        same_bind (goes.goes_place limit program b on place) (same_place place) (λ spot.
-        same_behind (goes_ask (run.file_of spot)) (λ file. same_test test file))
+        same_operand number_of (goes.goes_value limit program b on argument) (same_value argument)
+        (λ found. same_self n _)
+    same_value (typed.tested test place) = same_self n _
     same_value (typed.parenthesized inner) = same_value inner
-    same_value (typed.signed sign operand) =
-        same_operand (goes.goes_value limit program b on operand) (same_value operand) (λ found. same_self n _)
-    same_value (typed.negated operand) =
-        same_operand (goes.goes_value limit program b on operand) (same_value operand) (λ found. same_self n _)
+    same_value (typed.signed sign argument) =
+        same_operand number_of (goes.goes_value limit program b on argument) (same_value argument)
+        (λ found. same_self n _)
+    same_value (typed.negated argument) =
+        same_operand truth_of (goes.goes_value limit program b on argument) (same_value argument)
+        (λ found. same_self n _)
     same_value (typed.product left multiplying.And right) =
-        same_operand (goes.goes_value limit program b on left) (same_value left)
-        (λ first. same_if (is_true first) (same_value right) (same_self n _))
+        same_operand truth_of (goes.goes_value limit program b on left) (same_value left)
+        (λ first. same_if first (same_operand_alone (store.fits program.types (whole boolean))
+        (goes.goes_value limit program b on right) (same_value right)) (same_self n _))
     same_value (typed.product left multiplying.Times right) =
-        same_operand (goes.goes_value limit program b on left) (same_value left) (λ first.
-        same_operand (goes.goes_value limit program b on right) (same_value right) (λ second. same_self n _))
+        same_operand number_of (goes.goes_value limit program b on left) (same_value left) (λ first.
+        same_operand number_of (goes.goes_value limit program b on right) (same_value right)
+        (λ second. same_self n _))
     same_value (typed.product left multiplying.Div right) =
-        same_operand (goes.goes_value limit program b on left) (same_value left) (λ first.
-        same_operand (goes.goes_value limit program b on right) (same_value right) (λ second. same_self n _))
+        same_operand number_of (goes.goes_value limit program b on left) (same_value left) (λ first.
+        same_operand number_of (goes.goes_value limit program b on right) (same_value right)
+        (λ second. same_self n _))
     same_value (typed.product left multiplying.Mod right) =
-        same_operand (goes.goes_value limit program b on left) (same_value left) (λ first.
-        same_operand (goes.goes_value limit program b on right) (same_value right) (λ second. same_self n _))
+        same_operand number_of (goes.goes_value limit program b on left) (same_value left) (λ first.
+        same_operand number_of (goes.goes_value limit program b on right) (same_value right)
+        (λ second. same_self n _))
     same_value (typed.addition left adding.Or right) =
-        same_operand (goes.goes_value limit program b on left) (same_value left)
-        (λ first. same_if (is_true first) (same_self n _) (same_value right))
+        same_operand truth_of (goes.goes_value limit program b on left) (same_value left)
+        (λ first. same_if first (same_self n _) (same_operand_alone (store.fits program.types (whole boolean))
+        (goes.goes_value limit program b on right) (same_value right)))
     same_value (typed.addition left adding.Plus right) =
-        same_operand (goes.goes_value limit program b on left) (same_value left) (λ first.
-        same_operand (goes.goes_value limit program b on right) (same_value right) (λ second. same_self n _))
+        same_operand number_of (goes.goes_value limit program b on left) (same_value left) (λ first.
+        same_operand number_of (goes.goes_value limit program b on right) (same_value right)
+        (λ second. same_self n _))
     same_value (typed.addition left adding.Minus right) =
-        same_operand (goes.goes_value limit program b on left) (same_value left) (λ first.
-        same_operand (goes.goes_value limit program b on right) (same_value right) (λ second. same_self n _))
+        same_operand number_of (goes.goes_value limit program b on left) (same_value left) (λ first.
+        same_operand number_of (goes.goes_value limit program b on right) (same_value right)
+        (λ second. same_self n _))
     same_value (typed.comparison left relation right) =
-        same_operand (goes.goes_value limit program b on left) (same_value left) (λ first.
-        same_operand (goes.goes_value limit program b on right) (same_value right) (λ second. same_self n _))
+        same_operand number_of (goes.goes_value limit program b on left) (same_value left) (λ first.
+        same_operand number_of (goes.goes_value limit program b on right) (same_value right)
+        (λ second. same_self n _))
 
     pub same_place : (place : Place)
         → Same n (run.spot_at limit program b place) (run.spot_at limit program b' place)
     same_place (typed.slot slot) = same_self n _
     same_place (typed.element place range type index) =
         same_bind (goes.goes_place limit program b on place) (same_place place) (λ spot.
-        same_operand (goes.goes_value limit program b on index) (same_value index) (λ found. same_self n _))
+        same_operand (element range) (goes.goes_value limit program b on index) (same_value index)
+        (λ number. same_self n _))
     same_place (typed.field place field type) =
         same_bind (goes.goes_place limit program b on place) (same_place place) (λ spot. same_self n _)
-    same_place (typed.buffer place type) =
-        same_bind (goes.goes_place limit program b on place) (same_place place) (λ spot. same_self n _)
+    same_place (typed.buffer place type) = same_self n _
 
     pub same_arguments : (passed : Passed)
         → Same n (run.arguments_of limit program b passed) (run.arguments_of limit program b' passed)
     same_arguments typed.nothing = same_self n _
     same_arguments (typed.value type argument others) =
-        same_bind (goes.goes_value limit program b on argument) (same_value argument) (λ datum.
-        same_behind (goes_answered (store.fits program.types type datum)) (λ checked.
-        same_bind (goes.goes_arguments limit program b on others) (same_arguments others) (λ arguments. same_self n _)))
+        same_operand (store.fits program.types type) (goes.goes_value limit program b on argument) (same_value argument)
+        (λ datum. same_bind (goes.goes_arguments limit program b on others) (same_arguments others)
+        (λ arguments. same_self n _))
     same_arguments (typed.reference place others) =
         same_bind (goes.goes_place limit program b on place) (same_place place) (λ spot.
         same_bind (goes.goes_arguments limit program b on others) (same_arguments others) (λ arguments. same_self n _))
 
-  same_number_value : (found : Value)
-      → Same n (run.number_value limit program b found) (run.number_value limit program b' found)
-  same_number_value found =
-      same_numbered (goes.goes_value limit program b on found) (same_value found)
+  -- what is done with the variable that a file is
+  same_file : {A : Type 0} (place : Place) {next next' : Slot → Doing Store A}
+      → ((file : Slot) → Same n (next file) (next' file))
+      → Same n (answered (run.file_variable place) >>= next) (answered (run.file_variable place) >>= next')
+  same_file place later = same_behind (goes_answered (run.file_variable place)) later
 
-  -- what is done with the file that a place means
-  same_file : {A : Type 0} (place : Place) {next next' : ℕ → Doing Store A}
-      → ((file : ℕ) → Same n (next file) (next' file))
-      → Same n (run.spot_at limit program b place >>= (λ spot. ask (run.file_of spot) >>= next))
-      (run.spot_at limit program b' place >>= (λ spot. ask (run.file_of spot) >>= next'))
-  same_file place later =
-      same_bind (goes.goes_place limit program b on place) (same_place place)
-      (λ spot. same_behind (goes_ask (run.file_of spot)) later)
+  same_assigned : (place : Place) (datum : Datum)
+      → Same n (run.assigned limit program b place datum) (run.assigned limit program b' place datum)
+  same_assigned place datum =
+      same_bind (goes.goes_place limit program b on place) (same_place place) (λ spot. same_self n _)
 
-  same_read_item : (type : PasType) (file : ℕ) (place : Place)
+  same_step_on : (step : FileStep) (file : Slot)
+      → Same n (run.on_file file (run.file_step limit program b step))
+      (run.on_file file (run.file_step limit program b' step))
+  same_step_on typed.reset file = same_self n _
+  same_step_on typed.rewrite file = same_self n _
+  same_step_on typed.get file = same_self n _
+  same_step_on typed.put file = same_self n _
+
+  same_read_item : (type : PasType) (file : Slot) (place : Place)
       → Same n (run.read_item limit program b type file place) (run.read_item limit program b' type file place)
   same_read_item type file place =
-      same_behind (goes_ask_file file files.buffer_read) (λ byte.
-      same_behind (goes_answered (run.component program.types type byte)) (λ datum.
-      same_bind (goes.goes_place limit program b on place) (same_place place) (λ spot. same_self n _)))
+      same_bind (goes.goes_value limit program b on (typed.read (run.buffer_of file type)))
+      (same_value (typed.read (run.buffer_of file type))) (λ datum.
+      same_then (goes.goes_assigned limit program b on place datum) (same_assigned place datum)
+      (same_step_on typed.get file))
 
-  same_read_items : (type : PasType) (file : ℕ) (places : List Place)
+  same_read_items : (type : PasType) (file : Slot) (places : List Place)
       → Same n (run.read_items limit program b type file places) (run.read_items limit program b' type file places)
   same_read_items type file [] = same_self n _
   same_read_items type file (place ∷ places) =
       same_then (goes.goes_read_item limit program b on type file place) (same_read_item type file place)
       (same_read_items type file places)
 
-  same_field : (file : ℕ) (bytes_for : ℕ → List ℕ) (width : ℕ) (given : Option Value)
-      → Same n (run.write_field limit program b file bytes_for width given)
-      (run.write_field limit program b' file bytes_for width given)
-  same_field file bytes_for width None = same_self n _
-  same_field file bytes_for width (Some given) =
-      same_bind (goes.goes_number_value limit program b on given) (same_number_value given) (λ found. same_self n _)
+  same_width : (width : ℕ) (given : Option Value)
+      → Same n (run.width_or limit program b width given) (run.width_or limit program b' width given)
+  same_width width None = same_self n _
+  same_width width (Some given) =
+      same_operand_alone number_of (goes.goes_value limit program b on given) (same_value given)
 
-  same_item : (file : ℕ) (item : Item)
+  same_item : (file : Slot) (item : Item)
       → Same n (run.write_item limit program b file item) (run.write_item limit program b' file item)
-  same_item file (typed.number_item item width) =
-      same_bind (goes.goes_number_value limit program b on item) (same_number_value item)
-      (λ found. same_field file (λ field. files.number_in_field field found) 1 width)
-  same_item file (typed.char_item item width) =
-      same_bind (goes.goes_number_value limit program b on item) (same_number_value item)
-      (λ found. same_field file (λ field. files.char_in_field field (nat_abs found)) 1 width)
-  same_item file (typed.string_item bytes width) =
-      same_field file (λ field. files.string_in_field field bytes) (length bytes) width
+  same_item file (typed.number_item item given) =
+      same_operand number_of (goes.goes_value limit program b on item) (same_value item) (λ found.
+      same_bind (goes.goes_width limit program b on 1 given) (same_width 1 given) (λ width. same_self n _))
+  same_item file (typed.char_item item given) =
+      same_operand (byte_of OUT_OF_RANGE) (goes.goes_value limit program b on item) (same_value item) (λ found.
+      same_bind (goes.goes_width limit program b on 1 given) (same_width 1 given) (λ width. same_self n _))
+  same_item file (typed.string_item bytes given) =
+      same_bind (goes.goes_width limit program b on (length bytes) given) (same_width (length bytes) given)
+      (λ width. same_self n _)
 
-  same_items : (file : ℕ) (items : List Item)
+  same_items : (file : Slot) (items : List Item)
       → Same n (run.write_items limit program b file items) (run.write_items limit program b' file items)
   same_items file [] = same_self n _
   same_items file (item ∷ items) =
       same_then (goes.goes_item limit program b on file item) (same_item file item) (same_items file items)
 
-  same_byte : (type : PasType) (file : ℕ) (item : Value)
+  same_byte : (type : PasType) (file : Slot) (item : Value)
       → Same n (run.write_byte limit program b type file item) (run.write_byte limit program b' type file item)
   same_byte type file item =
-      same_bind (goes.goes_value limit program b on item) (same_value item) (λ datum. same_self n _)
+      same_bind (goes.goes_value limit program b on item) (same_value item) (λ datum.
+      same_then (goes.goes_assigned limit program b on (run.buffer_of file type) datum)
+      (same_assigned (run.buffer_of file type) datum) (same_step_on typed.put file))
 
-  same_bytes : (type : PasType) (file : ℕ) (items : List Value)
+  same_bytes : (type : PasType) (file : Slot) (items : List Value)
       → Same n (run.write_bytes limit program b type file items) (run.write_bytes limit program b' type file items)
   same_bytes type file [] = same_self n _
   same_bytes type file (item ∷ items) =
       same_then (goes.goes_byte limit program b on type file item) (same_byte type file item)
       (same_bytes type file items)
-
-  same_file_step : (step : FileStep) (file : ℕ)
-      → Same n (run.file_step limit program b step file) (run.file_step limit program b' step file)
-  same_file_step typed.reset file = same_self n _
-  same_file_step typed.rewrite file = same_self n _
-  same_file_step typed.get file = same_self n _
-  same_file_step typed.put file = same_self n _
 
   same_again : (entry : Entry) (s : Statement) → Same n (take_step >> b entry s) (take_step >> b' entry s)
   same_again entry s = same_step (λ fewer less. same fewer entry s less)
@@ -279,12 +287,12 @@ module _ (limit : Option ℕ) (program : TypedProgram) (b b' : Doings)
   same_while_turn : (test : Value) {list list' : Doing Store Flow} → Same n list list'
       → Same n (run.while_turn limit program b test list) (run.while_turn limit program b' test list')
   same_while_turn test list =
-      same_bind (goes.goes_number_value limit program b on test) (same_number_value test)
-      (λ found. same_if (is_true found) list (same_self n _))
+      same_operand truth_of (goes.goes_value limit program b on test) (same_value test)
+      (λ found. same_if found list (same_self n _))
 
   same_until : (test : Value) → Same n (run.until limit program b test) (run.until limit program b' test)
   same_until test =
-      same_bind (goes.goes_number_value limit program b on test) (same_number_value test) (λ found. same_self n _)
+      same_operand truth_of (goes.goes_value limit program b on test) (same_value test) (λ found. same_self n _)
 
   same_repeat_turn : (test : Value) {list list' : Doing Store Flow} → Goes list → Same n list list'
       → Same n (run.repeat_turn limit program b test list) (run.repeat_turn limit program b' test list')
@@ -318,8 +326,8 @@ module _ (limit : Option ℕ) (program : TypedProgram) (b b' : Doings)
       → Same n (run.statement limit program b run.start (typed.for slot way first last list))
       (run.statement limit program b' run.start (typed.for slot way first last list))
   same_for_start slot way first last list body =
-      same_bind (goes.goes_number_value limit program b on first) (same_number_value first) (λ low.
-      same_bind (goes.goes_number_value limit program b on last) (same_number_value last) (λ high.
+      same_operand number_of (goes.goes_value limit program b on first) (same_value first) (λ low.
+      same_operand number_of (goes.goes_value limit program b on last) (same_value last) (λ high.
       same_for slot way low high _ _
       (goes_then goes_step (goes_bind (goes.goes_for_turn limit program b on slot way high
       (goes.goes_list limit program b on None list))
@@ -336,9 +344,10 @@ module _ (limit : Option ℕ) (program : TypedProgram) (b b' : Doings)
     same_statement from typed.empty = same_self n _
     same_statement from (typed.assigns place right) =
         same_bind (goes.goes_value limit program b on right) (same_value right) (λ datum.
-        same_bind (goes.goes_place limit program b on place) (same_place place) (λ spot. same_self n _))
+        same_then (goes.goes_assigned limit program b on place datum) (same_assigned place datum) (same_self n _))
     same_statement from (typed.sets_result cell type right) =
-        same_bind (goes.goes_value limit program b on right) (same_value right) (λ datum. same_self n _)
+        same_operand (store.fits program.types type) (goes.goes_value limit program b on right) (same_value right)
+        (λ datum. same_self n _)
     same_statement from (typed.calls routine passed) =
         same_bind (goes.goes_arguments limit program b on passed) (same_arguments passed) (λ arguments.
         same_then (goes.goes_call limit program b on routine arguments) (same_call routine arguments) (same_self n _))
@@ -346,16 +355,16 @@ module _ (limit : Option ℕ) (program : TypedProgram) (b b' : Doings)
         same_bind (goes.goes_list limit program b on (run.label_in from) list) (same_list (run.label_in from) list)
         (same_behind_list list (typed.compound list))
     same_statement from (typed.if_then test s) =
-        same_bind (goes.goes_number_value limit program b on test) (same_number_value test)
-        (λ found. same_if (is_true found) (same_statement run.start s) (same_self n _))
+        same_operand truth_of (goes.goes_value limit program b on test) (same_value test)
+        (λ found. same_if found (same_statement run.start s) (same_self n _))
     same_statement from (typed.if_else test s t) =
-        same_bind (goes.goes_number_value limit program b on test) (same_number_value test)
-        (λ found. same_if (is_true found) (same_statement run.start s) (same_statement run.start t))
+        same_operand truth_of (goes.goes_value limit program b on test) (same_value test)
+        (λ found. same_if found (same_statement run.start s) (same_statement run.start t))
     same_statement from (typed.case selector arms) =
-        same_bind (goes.goes_number_value limit program b on selector) (same_number_value selector)
+        same_operand number_of (goes.goes_value limit program b on selector) (same_value selector)
         (λ found. same_arm found arms (same_self n _))
     same_statement from (typed.case_others selector arms s) =
-        same_bind (goes.goes_number_value limit program b on selector) (same_number_value selector)
+        same_operand number_of (goes.goes_value limit program b on selector) (same_value selector)
         (λ found. same_arm found arms (same_statement run.start s))
     same_statement run.again (typed.while test list) =
         same_bind (goes.goes_while_turn limit program b on test (goes.goes_list limit program b on None list))
@@ -411,7 +420,7 @@ module _ (limit : Option ℕ) (program : TypedProgram) (b b' : Doings)
     same_statement from (typed.goto label) = same_self n _
     same_statement from (typed.goto_last status) = same_self n _
     same_statement from (typed.file_step step place) =
-        same_file place (λ file. same_then (goes.goes_file_step limit program b on step file) (same_file_step step file)
+        same_file place (λ file. same_then (goes.goes_step_on limit program b on step file) (same_step_on step file)
         (same_self n (pure run.next)))
     same_statement from (typed.reads place places) =
         same_file place (λ file. same_then
@@ -420,20 +429,20 @@ module _ (limit : Option ℕ) (program : TypedProgram) (b b' : Doings)
     same_statement from (typed.reads_line place places) =
         same_file place (λ file. same_then
         (goes.goes_read_items limit program b on (run.components_of program.types place) file places)
-        (same_read_items (run.components_of program.types place) file places)
-        (same_self n (change_file file files.readln >> pure run.next)))
+        (same_read_items (run.components_of program.types place) file places) (same_self n _))
     same_statement from (typed.writes place written) =
         same_file place (λ file. same_then (goes.goes_items limit program b on file written) (same_items file written)
         (same_self n (pure run.next)))
     same_statement from (typed.writes_line place written) =
         same_file place (λ file. same_then (goes.goes_items limit program b on file written) (same_items file written)
-        (same_self n (append file (files.written (files.line_end ∷ [])) >> pure run.next)))
+        (same_self n _))
     same_statement from (typed.writes_bytes place written) =
         same_file place (λ file. same_then
         (goes.goes_bytes limit program b on (run.components_of program.types place) file written)
         (same_bytes (run.components_of program.types place) file written) (same_self n (pure run.next)))
     same_statement from (typed.halts status) =
-        same_bind (goes.goes_number_value limit program b on status) (same_number_value status) (λ found. same_self n _)
+        same_operand (byte_of STATUS_OUT_OF_RANGE) (goes.goes_value limit program b on status) (same_value status)
+        (λ found. same_self n _)
 
     pub same_list : (from : Option ℕ) (list : Statements)
         → Same n (run.items limit program b from list) (run.items limit program b' from list)

@@ -1,26 +1,24 @@
 -- A trial is the run where it is not too deep: the limit on active calls changes nothing else.
 use Rattle.std.proofs.Common.{ℕ, zero, suc, List, [], ◌∷◌, Option, Some, None, Bool, true, false}
-use Rattle.std.specs.Prelude.{ℤ, if◌then◌else◌, length, nat_abs}
+use Rattle.std.specs.Prelude.{ℤ, if◌then◌else◌, length}
 use Rattle.std.specs.List.{list_any}
 use Rattle.pas_syntax.specs.declared.operators.Multiplying.TheVariants as multiplying
 use Rattle.pas_syntax.specs.declared.operators.Adding.TheVariants as adding
 use Rattle.pas_syntax.specs.declared.operators.Way.{Way}
-use Rattle.pas_typed.specs.Types.{PasType}
+use Rattle.pas_typed.specs.Types.{PasType, whole, boolean}
 use Rattle.pas_typed.specs.Typed as typed
-use Rattle.pas_typed.specs.Typed.{FileTest, FileStep, Slot, Value, Place, Passed, Item, Statement, Statements, Arms}
-use Rattle.pas_typed.specs.Typed.{Body}
+use Rattle.pas_typed.specs.Typed.{FileStep, Slot, Value, Place, Passed, Item, Statement, Statements, Arms, Body}
 use Rattle.pas_typed.specs.Typed.{TypedProgram}
-use Rattle.pas_meaning.specs.Files as files
+use Rattle.pas_meaning.specs.declared.errors.TheConstants.{OUT_OF_RANGE, STATUS_OUT_OF_RANGE}
+use Rattle.pas_meaning.specs.Answers.{Answer}
 use Rattle.pas_meaning.specs.Outcome.{World, Outcome, gives, ends, errs, too_deep, Doing, pure, and_then, ◌>>=◌}
-use Rattle.pas_meaning.specs.Outcome.{◌>>◌}
-use Rattle.pas_meaning.specs.Outcome.{answered, ask, change, led, passes, stops, take_step, is_full}
-use Rattle.pas_meaning.specs.Outcome.{begin_call}
-use Rattle.pas_meaning.specs.FileSteps.{ask_file, change_file, append}
+use Rattle.pas_meaning.specs.Outcome.{◌>>◌, answered, change, led, passes, stops, take_step, is_full, begin_call}
 use Rattle.pas_meaning.specs.Store as store
-use Rattle.pas_meaning.specs.Store.{Datum, Store, holds}
-use Rattle.pas_meaning.specs.Arithmetic.{is_true, is_same}
+use Rattle.pas_meaning.specs.Store.{Datum, Store, holds, number_of}
+use Rattle.pas_meaning.specs.Arithmetic.{is_same}
+use Rattle.pas_meaning.specs.Operands.{operand, element, byte_of, truth_of}
 use Rattle.pas_meaning.specs.Run as run
-use Rattle.pas_meaning.specs.Run.{Flow, Entry, Doings, Argument, number_of}
+use Rattle.pas_meaning.specs.Run.{Flow, Entry, Doings, Argument}
 use Rattle.pas_meaning.specs.Laws.{DeepOr, deep, same, AsRun}
 
 pub as_self : {S A : Type 0} (doing : Doing S A) → AsRun doing doing
@@ -71,14 +69,15 @@ begins false found before world = same
 as_begin : {S : Type 0} (count : ℕ) → AsRun {S = S} (begin_call (Some count)) (begin_call None)
 as_begin count = record { each = λ now. begins (is_full (Some count) now.world.calls) now.store now.world _ }
 
-as_numbered : {doing doing' : Doing Store Datum} → AsRun doing doing' → AsRun (run.numbered doing) (run.numbered doing')
-as_numbered doing = as_bind doing (λ datum. as_self _)
+as_operand_alone : {A : Type 0} (check : Datum → Answer A) {doing doing' : Doing Store Datum} → AsRun doing doing'
+    → AsRun (operand check doing) (operand check doing')
+as_operand_alone check doing = as_bind doing (λ datum. as_self _)
 
--- what is done with the number that an operand is
-as_operand : {A : Type 0} {operand operand' : Doing Store Datum} {next next' : ℤ → Doing Store A}
-    → AsRun operand operand' → ((found : ℤ) → AsRun (next found) (next' found))
-    → AsRun (run.numbered operand >>= next) (run.numbered operand' >>= next')
-as_operand operand later = as_bind (as_numbered operand) later
+-- what is done with an operand behind its check
+as_operand : {A B : Type 0} (check : Datum → Answer A) {doing doing' : Doing Store Datum}
+    {next next' : A → Doing Store B} → AsRun doing doing' → ((found : A) → AsRun (next found) (next' found))
+    → AsRun (operand check doing >>= next) (operand check doing' >>= next')
+as_operand check doing later = as_bind (as_operand_alone check doing) later
 
 module _ (count : ℕ) (program : TypedProgram) (b b' : Doings)
     (as_below : (from : Entry) (s : Statement) → AsRun (b from s) (b' from s)) where
@@ -94,11 +93,6 @@ module _ (count : ℕ) (program : TypedProgram) (b b' : Doings)
   as_call routine arguments =
       as_then (as_self take_step) (as_then (as_begin count) (as_body (run.body_of program routine) arguments))
 
-  as_test : (test : FileTest) (file : ℕ)
-      → AsRun (run.test_file (Some count) program b test file) (run.test_file None program b' test file)
-  as_test typed.eof file = as_self _
-  as_test typed.eoln file = as_self _
-
   mutual
     pub as_value : (found : Value) → AsRun (run.value (Some count) program b found) (run.value None program b' found)
     as_value (typed.constant base number) = as_self _
@@ -109,132 +103,120 @@ module _ (count : ℕ) (program : TypedProgram) (b b' : Doings)
         as_bind (as_call routine arguments)
         (λ result. as_self _))
     as_value (typed.applied function argument) =
-        as_operand (as_value argument) (λ found. as_self _)
-    as_value (typed.tested test place) =
-        as_bind (as_place place) (λ spot.
-        as_behind (ask (run.file_of spot)) (λ file. as_test test file))
+        as_operand number_of (as_value argument) (λ found. as_self _)
+    as_value (typed.tested test place) = as_self _
     as_value (typed.parenthesized inner) = as_value inner
-    as_value (typed.signed sign operand) =
-        as_operand (as_value operand) (λ found. as_self _)
-    as_value (typed.negated operand) =
-        as_operand (as_value operand) (λ found. as_self _)
+    as_value (typed.signed sign argument) =
+        as_operand number_of (as_value argument) (λ found. as_self _)
+    as_value (typed.negated argument) =
+        as_operand truth_of (as_value argument) (λ found. as_self _)
     as_value (typed.product left multiplying.And right) =
-        as_operand (as_value left)
-        (λ first. as_if (is_true first) (as_value right) (as_self _))
+        as_operand truth_of (as_value left) (λ first.
+        as_if first (as_operand_alone (store.fits program.types (whole boolean)) (as_value right)) (as_self _))
     as_value (typed.product left multiplying.Times right) =
-        as_operand (as_value left) (λ first.
-        as_operand (as_value right) (λ second. as_self _))
+        as_operand number_of (as_value left) (λ first.
+        as_operand number_of (as_value right) (λ second. as_self _))
     as_value (typed.product left multiplying.Div right) =
-        as_operand (as_value left) (λ first.
-        as_operand (as_value right) (λ second. as_self _))
+        as_operand number_of (as_value left) (λ first.
+        as_operand number_of (as_value right) (λ second. as_self _))
     as_value (typed.product left multiplying.Mod right) =
-        as_operand (as_value left) (λ first.
-        as_operand (as_value right) (λ second. as_self _))
+        as_operand number_of (as_value left) (λ first.
+        as_operand number_of (as_value right) (λ second. as_self _))
     as_value (typed.addition left adding.Or right) =
-        as_operand (as_value left)
-        (λ first. as_if (is_true first) (as_self _) (as_value right))
+        as_operand truth_of (as_value left) (λ first.
+        as_if first (as_self _) (as_operand_alone (store.fits program.types (whole boolean)) (as_value right)))
     as_value (typed.addition left adding.Plus right) =
-        as_operand (as_value left) (λ first.
-        as_operand (as_value right) (λ second. as_self _))
+        as_operand number_of (as_value left) (λ first.
+        as_operand number_of (as_value right) (λ second. as_self _))
     as_value (typed.addition left adding.Minus right) =
-        as_operand (as_value left) (λ first.
-        as_operand (as_value right) (λ second. as_self _))
+        as_operand number_of (as_value left) (λ first.
+        as_operand number_of (as_value right) (λ second. as_self _))
     as_value (typed.comparison left relation right) =
-        as_operand (as_value left) (λ first.
-        as_operand (as_value right) (λ second. as_self _))
+        as_operand number_of (as_value left) (λ first.
+        as_operand number_of (as_value right) (λ second. as_self _))
 
     pub as_place : (place : Place)
         → AsRun (run.spot_at (Some count) program b place) (run.spot_at None program b' place)
     as_place (typed.slot slot) = as_self _
     as_place (typed.element place range type index) =
         as_bind (as_place place) (λ spot.
-        as_operand (as_value index) (λ found. as_self _))
+        as_operand (element range) (as_value index) (λ number. as_self _))
     as_place (typed.field place field type) =
         as_bind (as_place place) (λ spot. as_self _)
-    as_place (typed.buffer place type) =
-        as_bind (as_place place) (λ spot. as_self _)
+    as_place (typed.buffer place type) = as_self _
 
     pub as_arguments : (passed : Passed)
         → AsRun (run.arguments_of (Some count) program b passed) (run.arguments_of None program b' passed)
     as_arguments typed.nothing = as_self _
     as_arguments (typed.value type argument others) =
-        as_bind (as_value argument) (λ datum.
-        as_behind (answered (store.fits program.types type datum)) (λ checked.
-        as_bind (as_arguments others) (λ arguments. as_self _)))
+        as_operand (store.fits program.types type) (as_value argument) (λ datum.
+        as_bind (as_arguments others) (λ arguments. as_self _))
     as_arguments (typed.reference place others) =
         as_bind (as_place place) (λ spot.
         as_bind (as_arguments others) (λ arguments. as_self _))
 
-  as_number_value : (found : Value)
-      → AsRun (run.number_value (Some count) program b found) (run.number_value None program b' found)
-  as_number_value found =
-      as_numbered (as_value found)
+  -- what is done with the variable that a file is
+  as_file : {A : Type 0} (place : Place) {next next' : Slot → Doing Store A}
+      → ((file : Slot) → AsRun (next file) (next' file))
+      → AsRun (answered (run.file_variable place) >>= next) (answered (run.file_variable place) >>= next')
+  as_file place later = as_behind (answered (run.file_variable place)) later
 
-  -- what is done with the file that a place means
-  as_file : {A : Type 0} (place : Place) {next next' : ℕ → Doing Store A}
-      → ((file : ℕ) → AsRun (next file) (next' file))
-      → AsRun (run.spot_at (Some count) program b place >>= (λ spot. ask (run.file_of spot) >>= next))
-      (run.spot_at None program b' place >>= (λ spot. ask (run.file_of spot) >>= next'))
-  as_file place later =
-      as_bind (as_place place)
-      (λ spot. as_behind (ask (run.file_of spot)) later)
+  as_assigned : (place : Place) (datum : Datum)
+      → AsRun (run.assigned (Some count) program b place datum) (run.assigned None program b' place datum)
+  as_assigned place datum = as_bind (as_place place) (λ spot. as_self _)
 
-  as_read_item : (type : PasType) (file : ℕ) (place : Place)
+  as_step_on : (step : FileStep) (file : Slot)
+      → AsRun (run.on_file file (run.file_step (Some count) program b step))
+      (run.on_file file (run.file_step None program b' step))
+  as_step_on typed.reset file = as_self _
+  as_step_on typed.rewrite file = as_self _
+  as_step_on typed.get file = as_self _
+  as_step_on typed.put file = as_self _
+
+  as_read_item : (type : PasType) (file : Slot) (place : Place)
       → AsRun (run.read_item (Some count) program b type file place) (run.read_item None program b' type file place)
   as_read_item type file place =
-      as_behind (ask_file file files.buffer_read) (λ byte.
-      as_behind (answered (run.component program.types type byte)) (λ datum.
-      as_bind (as_place place) (λ spot. as_self _)))
+      as_bind (as_value (typed.read (run.buffer_of file type))) (λ datum.
+      as_then (as_assigned place datum) (as_step_on typed.get file))
 
-  as_read_items : (type : PasType) (file : ℕ) (places : List Place)
+  as_read_items : (type : PasType) (file : Slot) (places : List Place)
       → AsRun (run.read_items (Some count) program b type file places) (run.read_items None program b' type file places)
   as_read_items type file [] = as_self _
   as_read_items type file (place ∷ places) =
       as_then (as_read_item type file place)
       (as_read_items type file places)
 
-  as_field : (file : ℕ) (bytes_for : ℕ → List ℕ) (width : ℕ) (given : Option Value)
-      → AsRun (run.write_field (Some count) program b file bytes_for width given)
-      (run.write_field None program b' file bytes_for width given)
-  as_field file bytes_for width None = as_self _
-  as_field file bytes_for width (Some given) =
-      as_bind (as_number_value given) (λ found. as_self _)
+  as_width : (width : ℕ) (given : Option Value)
+      → AsRun (run.width_or (Some count) program b width given) (run.width_or None program b' width given)
+  as_width width None = as_self _
+  as_width width (Some given) = as_operand_alone number_of (as_value given)
 
-  as_item : (file : ℕ) (item : Item)
+  as_item : (file : Slot) (item : Item)
       → AsRun (run.write_item (Some count) program b file item) (run.write_item None program b' file item)
-  as_item file (typed.number_item item width) =
-      as_bind (as_number_value item)
-      (λ found. as_field file (λ field. files.number_in_field field found) 1 width)
-  as_item file (typed.char_item item width) =
-      as_bind (as_number_value item)
-      (λ found. as_field file (λ field. files.char_in_field field (nat_abs found)) 1 width)
-  as_item file (typed.string_item bytes width) =
-      as_field file (λ field. files.string_in_field field bytes) (length bytes) width
+  as_item file (typed.number_item item given) =
+      as_operand number_of (as_value item) (λ found. as_bind (as_width 1 given) (λ width. as_self _))
+  as_item file (typed.char_item item given) =
+      as_operand (byte_of OUT_OF_RANGE) (as_value item) (λ found. as_bind (as_width 1 given) (λ width. as_self _))
+  as_item file (typed.string_item bytes given) = as_bind (as_width (length bytes) given) (λ width. as_self _)
 
-  as_items : (file : ℕ) (items : List Item)
+  as_items : (file : Slot) (items : List Item)
       → AsRun (run.write_items (Some count) program b file items) (run.write_items None program b' file items)
   as_items file [] = as_self _
   as_items file (item ∷ items) =
       as_then (as_item file item) (as_items file items)
 
-  as_byte : (type : PasType) (file : ℕ) (item : Value)
+  as_byte : (type : PasType) (file : Slot) (item : Value)
       → AsRun (run.write_byte (Some count) program b type file item) (run.write_byte None program b' type file item)
   as_byte type file item =
-      as_bind (as_value item) (λ datum. as_self _)
+      as_bind (as_value item) (λ datum.
+      as_then (as_assigned (run.buffer_of file type) datum) (as_step_on typed.put file))
 
-  as_bytes : (type : PasType) (file : ℕ) (items : List Value)
+  as_bytes : (type : PasType) (file : Slot) (items : List Value)
       → AsRun (run.write_bytes (Some count) program b type file items) (run.write_bytes None program b' type file items)
   as_bytes type file [] = as_self _
   as_bytes type file (item ∷ items) =
       as_then (as_byte type file item)
       (as_bytes type file items)
-
-  as_file_step : (step : FileStep) (file : ℕ)
-      → AsRun (run.file_step (Some count) program b step file) (run.file_step None program b' step file)
-  as_file_step typed.reset file = as_self _
-  as_file_step typed.rewrite file = as_self _
-  as_file_step typed.get file = as_self _
-  as_file_step typed.put file = as_self _
 
   as_again : (entry : Entry) (s : Statement) → AsRun (take_step >> b entry s) (take_step >> b' entry s)
   as_again entry s = as_then (as_self take_step) (as_below entry s)
@@ -262,12 +244,11 @@ module _ (count : ℕ) (program : TypedProgram) (b b' : Doings)
   as_while_turn : (test : Value) {list list' : Doing Store Flow} → AsRun list list'
       → AsRun (run.while_turn (Some count) program b test list) (run.while_turn None program b' test list')
   as_while_turn test list =
-      as_bind (as_number_value test)
-      (λ found. as_if (is_true found) list (as_self _))
+      as_operand truth_of (as_value test) (λ found. as_if found list (as_self _))
 
   as_until : (test : Value) → AsRun (run.until (Some count) program b test) (run.until None program b' test)
   as_until test =
-      as_bind (as_number_value test) (λ found. as_self _)
+      as_operand truth_of (as_value test) (λ found. as_self _)
 
   as_repeat_turn : (test : Value) {list list' : Doing Store Flow} → AsRun list list'
       → AsRun (run.repeat_turn (Some count) program b test list) (run.repeat_turn None program b' test list')
@@ -301,8 +282,8 @@ module _ (count : ℕ) (program : TypedProgram) (b b' : Doings)
       → AsRun (run.statement (Some count) program b run.start (typed.for slot way first last list))
       (run.statement None program b' run.start (typed.for slot way first last list))
   as_for_start slot way first last list body =
-      as_bind (as_number_value first) (λ low.
-      as_bind (as_number_value last) (λ high.
+      as_operand number_of (as_value first) (λ low.
+      as_operand number_of (as_value last) (λ high.
       as_for slot way low high _ _
       (as_first (as_bind
       (as_for_turn slot way high body)
@@ -313,10 +294,9 @@ module _ (count : ℕ) (program : TypedProgram) (b b' : Doings)
         → AsRun (run.statement (Some count) program b from s) (run.statement None program b' from s)
     as_statement from typed.empty = as_self _
     as_statement from (typed.assigns place right) =
-        as_bind (as_value right) (λ datum.
-        as_bind (as_place place) (λ spot. as_self _))
+        as_bind (as_value right) (λ datum. as_then (as_assigned place datum) (as_self _))
     as_statement from (typed.sets_result cell type right) =
-        as_bind (as_value right) (λ datum. as_self _)
+        as_operand (store.fits program.types type) (as_value right) (λ datum. as_self _)
     as_statement from (typed.calls routine passed) =
         as_bind (as_arguments passed) (λ arguments.
         as_then (as_call routine arguments) (as_self _))
@@ -324,16 +304,16 @@ module _ (count : ℕ) (program : TypedProgram) (b b' : Doings)
         as_bind (as_list (run.label_in from) list)
         (as_behind_list list (typed.compound list))
     as_statement from (typed.if_then test s) =
-        as_bind (as_number_value test)
-        (λ found. as_if (is_true found) (as_statement run.start s) (as_self _))
+        as_operand truth_of (as_value test)
+        (λ found. as_if found (as_statement run.start s) (as_self _))
     as_statement from (typed.if_else test s t) =
-        as_bind (as_number_value test)
-        (λ found. as_if (is_true found) (as_statement run.start s) (as_statement run.start t))
+        as_operand truth_of (as_value test)
+        (λ found. as_if found (as_statement run.start s) (as_statement run.start t))
     as_statement from (typed.case selector arms) =
-        as_bind (as_number_value selector)
+        as_operand number_of (as_value selector)
         (λ found. as_arm found arms (as_self _))
     as_statement from (typed.case_others selector arms s) =
-        as_bind (as_number_value selector)
+        as_operand number_of (as_value selector)
         (λ found. as_arm found arms (as_statement run.start s))
     as_statement run.again (typed.while test list) =
         as_bind
@@ -381,26 +361,22 @@ module _ (count : ℕ) (program : TypedProgram) (b b' : Doings)
     as_statement from (typed.goto label) = as_self _
     as_statement from (typed.goto_last status) = as_self _
     as_statement from (typed.file_step step place) =
-        as_file place (λ file. as_then (as_file_step step file)
-        (as_self (pure run.next)))
+        as_file place (λ file. as_then (as_step_on step file) (as_self (pure run.next)))
     as_statement from (typed.reads place places) =
         as_file place (λ file. as_then
         (as_read_items (run.components_of program.types place) file places) (as_self (pure run.next)))
     as_statement from (typed.reads_line place places) =
         as_file place (λ file. as_then
-        (as_read_items (run.components_of program.types place) file places)
-        (as_self (change_file file files.readln >> pure run.next)))
+        (as_read_items (run.components_of program.types place) file places) (as_self _))
     as_statement from (typed.writes place written) =
-        as_file place (λ file. as_then (as_items file written)
-        (as_self (pure run.next)))
+        as_file place (λ file. as_then (as_items file written) (as_self (pure run.next)))
     as_statement from (typed.writes_line place written) =
-        as_file place (λ file. as_then (as_items file written)
-        (as_self (append file (files.written (files.line_end ∷ [])) >> pure run.next)))
+        as_file place (λ file. as_then (as_items file written) (as_self _))
     as_statement from (typed.writes_bytes place written) =
         as_file place (λ file. as_then
         (as_bytes (run.components_of program.types place) file written) (as_self (pure run.next)))
     as_statement from (typed.halts status) =
-        as_bind (as_number_value status) (λ found. as_self _)
+        as_operand (byte_of STATUS_OUT_OF_RANGE) (as_value status) (λ found. as_self _)
 
     pub as_list : (from : Option ℕ) (list : Statements)
         → AsRun (run.items (Some count) program b from list) (run.items None program b' from list)

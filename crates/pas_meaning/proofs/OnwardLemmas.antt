@@ -10,10 +10,10 @@ use Rattle.pas_meaning.specs.Answers.{Answer, fine, wrong, then_answer}
 use Rattle.pas_meaning.specs.Files as files
 use Rattle.pas_meaning.specs.Files.{File}
 use Rattle.pas_meaning.specs.Outcome.{Output, World, End, Outcome, gives, ends, errs, Doing, pure, and_then, ◌>>=◌}
-use Rattle.pas_meaning.specs.Outcome.{◌>>◌, answered, ask, change, Worldly, passes, stops, fails, led, worldly, stepped}
-use Rattle.pas_meaning.specs.Outcome.{take_step, is_full, begin_call, end_call, stop, too_deep}
+use Rattle.pas_meaning.specs.Outcome.{◌>>◌, answered, ask, change, changed, Worldly, passes, stops, fails, led, worldly}
+use Rattle.pas_meaning.specs.Outcome.{stepped, take_step, is_full, begin_call, end_call, stop, too_deep}
 use Rattle.pas_meaning.specs.Outcome.{emptied, wrote}
-use Rattle.pas_meaning.specs.FileSteps.{no_file, file_at, with_file, passed, ask_file, left, change_file, reset}
+use Rattle.pas_meaning.specs.FileSteps.{no_file, file_at, with_file, left, change_file, reset}
 use Rattle.pas_meaning.specs.FileSteps.{rewrite}
 use Rattle.pas_meaning.specs.FileSteps.{emptied_file, with_byte, with_bytes, appended, append, put_byte, put}
 use Rattle.pas_meaning.specs.Laws.{Extends, as_it_was, and_one, bytes_in, Onward, world_of, Goes, PassesOn}
@@ -57,11 +57,14 @@ pub goes_answered : {S A : Type 0} (answer : Answer A) → Goes {S = S} (answere
 goes_answered (fine value) = goes_pure value
 goes_answered (wrong kind) = record { each = λ run. onward_same run.world }
 
-pub goes_ask : {S A : Type 0} (question : S → Answer A) → Goes (ask question)
-goes_ask question = record { each = λ run. (goes_answered (question run.store)).each run }
+pub goes_ask : {S A : Type 0} (question : S → World → Answer A) → Goes (ask question)
+goes_ask question = record { each = λ run. (goes_answered (question run.store run.world)).each run }
 
 pub goes_change : {S : Type 0} (next : S → S) → Goes (change next)
 goes_change next = record { each = λ run. onward_same run.world }
+
+pub goes_changed : {S : Type 0} (next : S → Answer S) → Goes (changed next)
+goes_changed next = goes_bind (goes_ask (λ before world. next before)) (λ now. goes_change (λ _. now))
 
 pub goes_stop : {S A : Type 0} (end : End) → Goes {S = S} {A = A} (stop end)
 goes_stop end = record { each = λ run. onward_same run.world }
@@ -108,14 +111,6 @@ goes_end_call = goes_worldly {step = λ world. passes tt (record world { calls =
 })
 
 -- files
-asked_on : {A : Type 0} (world : World) (answer : Answer A) → PassesOn world (passed world answer)
-asked_on world (fine value) = onward_same world
-asked_on world (wrong kind) = tt
-
-pub goes_ask_file : {S A : Type 0} (number : ℕ) (question : File → Answer A) → Goes {S = S} (ask_file number question)
-goes_ask_file number question = goes_worldly (record {
-  each = λ world. asked_on world (question (file_at number world));
-})
 
 -- a step that leaves the bytes of its file
 same_bytes : (number : ℕ) (file : File) (world : World) → file.bytes ≡ (file_at number world).bytes
@@ -160,8 +155,13 @@ keeps_next file make same (wrong kind) = refuses kind
 pub get_keeps : (file : File) → Keeps file (files.get file)
 get_keeps file = keeps_next file _ (λ byte. refl) (files.next_byte file)
 
+keeps_on_text : (file : File) (is_text : Bool) (answer : Answer File) → Keeps file answer
+    → Keeps file (if is_text then answer else wrong WRONG_MODE)
+keeps_on_text file true answer kept = kept
+keeps_on_text file false answer kept = refuses WRONG_MODE
+
 pub readln_keeps : (file : File) → Keeps file (files.readln file)
-readln_keeps file = keeps_next file _ (λ byte. refl) (files.next_byte file)
+readln_keeps file = keeps_on_text file file.is_text _ (keeps_next file _ (λ byte. refl) (files.next_byte file))
 
 set_keeps : (byte : ℕ) (file : File) (writes : Bool)
     → Keeps file (if writes then fine (record file { buffer = Some byte }) else wrong WRONG_MODE)

@@ -31,9 +31,9 @@ is_true (negsuc value) = true
 abbrev pub within_maxint : ℤ → Answer ℤ
 within_maxint value = if is_within (all_of integer) value then fine value else wrong PAST_MAXINT
 
-abbrev pub signed : Sign → ℤ → ℤ
-signed sign.Plus value = value
-signed sign.Minus value = neg_ℤ value
+abbrev pub signed : Sign → ℤ → Answer ℤ
+signed sign.Plus value = fine value
+signed sign.Minus value = within_maxint (neg_ℤ value)
 
 -- a number by a number above 0, of which the rest is not below 0
 abbrev pub modulo : ℤ → ℤ → ℤ
@@ -46,7 +46,7 @@ is_zero value = int_le value (pos 0) && int_le (pos 0) value
 abbrev pub multiplied : Multiplying → ℤ → ℤ → Answer ℤ
 multiplied multiplying.Times left right = within_maxint (left *ℤ right)
 multiplied multiplying.Div left right =
-    if is_zero right then wrong DIVISION_BY_ZERO else fine (int_div left right)
+    if is_zero right then wrong DIVISION_BY_ZERO else within_maxint (int_div left right)
 multiplied multiplying.Mod left right =
     if int_le (pos 1) right then fine (modulo left right) else wrong MOD_BELOW_1
 multiplied multiplying.And left right = fine right
@@ -74,5 +74,5 @@ is_odd value = nat_abs value % 2 == 1
 abbrev pub function_at : Function → ℤ → Answer ℤ
 function_at typed.ord value = fine value
 function_at typed.chr value = if is_within (all_of char) value then fine value else wrong CHR_OUT_OF_RANGE
-function_at typed.abs value = fine (pos (nat_abs value))
+function_at typed.abs value = within_maxint (pos (nat_abs value))
 function_at typed.odd value = fine (truth (is_odd value))

@@ -1,5 +1,7 @@
 -- The steps of files as steps of a run: each is of the file with this number.
-use Rattle.std.specs.Prelude.{ℕ, false, List, [], ◌∷◌, ◌++◌, slice_index_or, slice_set, fold, None}
+use Rattle.std.specs.Prelude.{ℕ, false, nat_lt, if◌then◌else◌, List, [], ◌∷◌, ◌++◌, length, slice_index_or, slice_set}
+use Rattle.std.specs.Prelude.{fold, None}
+use Rattle.pas_meaning.specs.declared.errors.TheConstants.{WRONG_MODE}
 use Rattle.pas_meaning.specs.Answers.{Answer, fine, wrong}
 use Rattle.pas_meaning.specs.Files as files
 use Rattle.pas_meaning.specs.Files.{File}
@@ -14,14 +16,11 @@ file_at number world = slice_index_or world.files number no_file
 abbrev pub with_file : ℕ → File → World → World
 with_file number file world = record world { files = slice_set world.files number file }
 
--- what a question to a file answers, and the file as a step leaves it
-abbrev pub passed : {A : Type 0} → World → Answer A → Worldly A
-passed world (fine value) = passes value world
-passed world (wrong kind) = fails kind
+-- a file that is there: one that is not is in no mode
+abbrev pub file_named : ℕ → World → Answer ℕ
+file_named number world = if nat_lt number (length world.files) then fine number else wrong WRONG_MODE
 
-abbrev pub ask_file : {S A : Type 0} → ℕ → (File → Answer A) → Doing S A
-ask_file number question = worldly (λ world. passed world (question (file_at number world)))
-
+-- the file as a step leaves it
 abbrev pub left : ℕ → World → Answer File → Worldly (Unit {0})
 left number world (fine file) = passes tt (with_file number file world)
 left number world (wrong kind) = fails kind

@@ -57,6 +57,10 @@ while_reading file answer = if is_reading file.mode then answer else wrong WRONG
 abbrev pub while_writing : {A : Type 0} → File → Answer A → Answer A
 while_writing file answer = if is_writing file.mode then answer else wrong WRONG_MODE
 
+-- a step that only texts have: that it is one of a text is shown by the types, and is no error of a lawful program
+abbrev pub on_text : {A : Type 0} → File → Answer A → Answer A
+on_text file answer = if file.is_text then answer else wrong WRONG_MODE
+
 -- reset and rewrite
 abbrev pub reset : File → File
 reset file = record file { place = 0; mode = reading; buffer = None; starts = suc file.starts }
@@ -81,7 +85,7 @@ get file = then_answer (next_byte file) (λ _. fine (record file { place = suc f
 
 -- whether the end of a line is at the place, and whether the end of the file is
 abbrev pub eoln : File → Answer Bool
-eoln file = then_answer (next_byte file) (λ byte. fine (byte == line_end))
+eoln file = on_text file (then_answer (next_byte file) (λ byte. fine (byte == line_end)))
 
 abbrev pub eof_in : Mode → File → Answer Bool
 eof_in unused file = wrong WRONG_MODE
@@ -97,7 +101,7 @@ behind_line file =
     file.place + suc (unwrap_or (position (λ byte. byte == line_end) (drop file.place (view file))) 0)
 
 abbrev pub readln : File → Answer File
-readln file = then_answer (next_byte file) (λ _. fine (record file { place = behind_line file }))
+readln file = on_text file (then_answer (next_byte file) (λ _. fine (record file { place = behind_line file })))
 
 -- `f^ := e` and put, while the file is written
 abbrev pub buffer_set : ℕ → File → Answer File
@@ -124,10 +128,10 @@ string_in_field width bytes = padded width (take width bytes)
 abbrev pub width_of : ℤ → Answer ℕ
 width_of width = if int_le (pos 1) width then fine (nat_abs width) else wrong WIDTH_BELOW_1
 
--- what is written on a text with a width: the mode is looked at before the width
-abbrev pub written_with : (ℕ → List ℕ) → ℤ → File → Answer (List ℕ)
-written_with bytes_for width file =
-    while_writing file (then_answer (width_of width) (λ found. fine (bytes_for found)))
+-- what is written on a text in a field of a width: the mode is looked at before the width. And the end of a line
+abbrev pub written : (ℕ → List ℕ) → ℤ → File → Answer (List ℕ)
+written bytes_for width file =
+    on_text file (while_writing file (then_answer (width_of width) (λ found. fine (bytes_for found))))
 
-abbrev pub written : List ℕ → File → Answer (List ℕ)
-written bytes file = while_writing file (fine bytes)
+abbrev pub writeln : File → Answer (List ℕ)
+writeln file = on_text file (while_writing file (fine (line_end ∷ [])))

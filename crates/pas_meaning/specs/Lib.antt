@@ -5,6 +5,7 @@ pub mod Outcome
 pub mod FileSteps
 pub mod Store
 pub mod Arithmetic
+pub mod Operands
 pub mod Run
 pub mod Trial
 pub mod Laws

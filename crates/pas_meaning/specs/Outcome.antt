@@ -58,12 +58,15 @@ abbrev pub answered : {S A : Type 0} → Answer A → Doing S A
 answered (fine value) run = gives value run
 answered (wrong kind) run = errs kind run.world
 
--- what a question to the variables answers, and the variables changed
-abbrev pub ask : {S A : Type 0} → (S → Answer A) → Doing S A
-ask question run = answered (question run.store) run
+-- what a question to the variables and the world answers; the variables changed; and as an answer leaves them
+abbrev pub ask : {S A : Type 0} → (S → World → Answer A) → Doing S A
+ask question run = answered (question run.store run.world) run
 
 abbrev pub change : {S : Type 0} → (S → S) → Doing S (Unit {0})
 change next run = gives tt (record run { store = next run.store })
+
+abbrev pub changed : {S : Type 0} → (S → Answer S) → Doing S (Unit {0})
+changed next = ask (λ store world. next store) >>= (λ store. change (λ _. store))
 
 -- what needs and changes the world alone
 pub data Worldly (A : Type 0) : Type 0 where

@@ -1,31 +1,33 @@
 -- What a program does (ISO 7185, 6.7 to 6.9, in this project's profile). The order of evaluation and of checks, the
 -- steps, and the end at the last label are this project's own.
-use Rattle.std.specs.Prelude.{ℕ, zero, suc, ◌==◌, ◌&&◌, ◌||◌, not, ℤ, pos, nat_abs, int_le, ◌+ℤ◌, ◌-ℤ◌, Bool}
-use Rattle.std.specs.Prelude.{false, if◌then◌else◌, List, [], ◌∷◌, ◌++◌, length, map, drop, find, slice_get, Option}
-use Rattle.std.specs.Prelude.{Some, None, unwrap_or, option_to_list}
+use Rattle.std.specs.Prelude.{ℕ, zero, suc, ◌==◌, ◌||◌, not, ℤ, pos, nat_abs, int_le, ◌+ℤ◌, ◌-ℤ◌, Bool, true, false}
+use Rattle.std.specs.Prelude.{if◌then◌else◌, List, [], ◌∷◌, ◌++◌, length, map, drop, find, slice_get, Option, Some}
+use Rattle.std.specs.Prelude.{None, unwrap_or, option_to_list}
 use Rattle.std.specs.List.{list_any}
 use Rattle.pas_syntax.specs.declared.operators.Multiplying.TheVariants as multiplying
 use Rattle.pas_syntax.specs.declared.operators.Adding.TheVariants as adding
 use Rattle.pas_syntax.specs.declared.operators.Way.{Way}
 use Rattle.pas_syntax.specs.declared.operators.Way.TheVariants as way
-use Rattle.pas_typed.specs.Types.{Range, PasType, Table, whole, char, component_of}
+use Rattle.pas_typed.specs.Types as base
+use Rattle.pas_typed.specs.Types.{PasType, Table, whole, char, component_of}
 use Rattle.pas_typed.specs.Typed as typed
 use Rattle.pas_typed.specs.Typed.{FileTest, FileStep, Variable, Slot, Value, Place, Passed, Item, Statement, Statements}
 use Rattle.pas_typed.specs.Typed.{Arms, Heading, Body, TypedProgram}
-use Rattle.pas_meaning.specs.declared.errors.TheConstants.{UNDEFINED_VALUE, INDEX_OUT_OF_RANGE}
-use Rattle.pas_meaning.specs.declared.errors.TheConstants.{NO_CASE_MATCHES, UNDEFINED_RESULT, STATUS_OUT_OF_RANGE}
-use Rattle.pas_meaning.specs.Answers.{Answer, fine, wrong, or_wrong}
-use Rattle.pas_meaning.specs.Files as files
-use Rattle.pas_meaning.specs.Files.{number_in_field, char_in_field, string_in_field, line_end}
-use Rattle.pas_meaning.specs.Outcome.{going, halted, Doing, ends, pure, ◌>>=◌, ◌>>◌, answered, ask, change}
-use Rattle.pas_meaning.specs.Outcome.{take_step, begin_call, end_call, stop}
-use Rattle.pas_meaning.specs.FileSteps.{ask_file, change_file, reset, rewrite, append, put}
-use Rattle.pas_meaning.specs.Store.{Datum, undefined, holds, Cell, own, refers, Store, top_of, home_of}
-use Rattle.pas_meaning.specs.Store.{along, stored, cell_at, with_cell, held_by, number_in, number_at, in_range}
-use Rattle.pas_meaning.specs.Store.{fits, fetched_as, file_number, blank_of, opened, closed}
-use Rattle.pas_meaning.specs.Arithmetic.{truth, is_true, within_maxint, signed, multiplied, added, is_same, compared}
-use Rattle.pas_meaning.specs.Arithmetic.{function_at}
 use Rattle.pas_typed.specs.TypeOf.{type_of_place}
+use Rattle.pas_meaning.specs.declared.errors.TheConstants.{OUT_OF_RANGE, NO_CASE_MATCHES, WRONG_MODE, UNDEFINED_RESULT}
+use Rattle.pas_meaning.specs.declared.errors.TheConstants.{STATUS_OUT_OF_RANGE}
+use Rattle.pas_meaning.specs.Answers.{Answer, fine, wrong, then_answer}
+use Rattle.pas_meaning.specs.Files as files
+use Rattle.pas_meaning.specs.Files.{File, number_in_field, char_in_field, string_in_field}
+use Rattle.pas_meaning.specs.Outcome.{going, halted, World, Doing, ends, pure, ◌>>=◌, ◌>>◌, answered, ask, change}
+use Rattle.pas_meaning.specs.Outcome.{changed, take_step, begin_call, end_call, stop}
+use Rattle.pas_meaning.specs.FileSteps.{file_at, file_named, change_file, reset, rewrite, append, put}
+use Rattle.pas_meaning.specs.Store.{Datum, undefined, holds, Cell, own, refers, Store, top_of, home_of}
+use Rattle.pas_meaning.specs.Store.{along, stored, cell_at, with_cell, held_by, number_of, number_at}
+use Rattle.pas_meaning.specs.Store.{fits, put_at, fetched_as, blank_of, opened, closed}
+use Rattle.pas_meaning.specs.Arithmetic.{truth, within_maxint, signed, multiplied, added, is_same, compared}
+use Rattle.pas_meaning.specs.Arithmetic.{function_at}
+use Rattle.pas_meaning.specs.Operands.{operand, element, byte_of, truth_of}
 
 -- how a statement goes on: behind itself, or at a label of a list around it; and a turn of a loop also behind the loop
 pub data Flow : Type 0 where
@@ -76,46 +78,50 @@ path_of (window slot type) = []
 abbrev pub along_part : Spot → ℕ → Spot
 along_part spot index = part (slot_of spot) (path_of spot ++ index ∷ [])
 
-abbrev pub offset_in : Range → ℤ → ℕ
-offset_in range index = nat_abs (index -ℤ range.low)
-
 -- an argument: what a value parameter gets, or the place that a variable parameter means
 pub data Argument : Type 0 where
   copied : Datum → Argument
   meant : Spot → Argument
 
-abbrev pub number_of : Datum → Doing Store ℤ
-number_of datum = answered (or_wrong UNDEFINED_VALUE (number_in datum))
-
--- the number that is evaluated
-abbrev pub numbered : Doing Store Datum → Doing Store ℤ
-numbered doing = doing >>= number_of
-
 abbrev pub boolean : Bool → Datum
 boolean value = holds (truth value)
+
+-- the variable that a file is, which has no index; and the file's number, which the variable holds from the start
+abbrev pub file_variable : Place → Answer Slot
+file_variable (typed.slot slot) = fine slot
+file_variable place = wrong WRONG_MODE
+
+abbrev pub file_of : Slot → Store → World → Answer ℕ
+file_of slot store world =
+    then_answer (number_at (home_of slot store) store) (λ value. file_named (nat_abs value) world)
+
+-- what a question to a file answers, and a step of it: each finds the file when it comes to it
+abbrev pub of_file : {A : Type 0} → Slot → (File → Answer A) → Store → World → Answer A
+of_file file question store world = then_answer (file_of file store world) (λ number. question (file_at number world))
+
+abbrev pub on_file : Slot → (ℕ → Doing Store (Unit {0})) → Doing Store (Unit {0})
+on_file file step = do
+  number ← ask (file_of file)
+  step number
 
 module _ (table : Table) where
   -- a byte of a file as a component
   abbrev pub component : PasType → ℕ → Answer Datum
   component type byte = fits table type (holds (pos byte))
 
-  -- what a place of a type holds, and something stored there
-  abbrev pub read_at : PasType → Spot → Doing Store Datum
-  read_at type (part slot path) = ask (λ store. fetched_as table type (along (home_of slot store) path) store)
-  read_at type (window slot of_component) = do
-    file ← ask (λ store. fine (file_number slot store))
-    byte ← ask_file file files.buffer_read
-    answered (component of_component byte)
+  -- what a place of a type holds
+  abbrev pub read_at : PasType → Spot → Store → World → Answer Datum
+  read_at type (part slot path) store world = fetched_as table type (along (home_of slot store) path) store
+  read_at type (window file of_component) store world =
+      then_answer (of_file file files.buffer_read store world) (component of_component)
 
+  -- v := what is given, where v is this place of a type
   abbrev pub store_at : PasType → Spot → Datum → Doing Store (Unit {0})
-  store_at type (part slot path) datum = do
-    checked ← answered (fits table type datum)
-    change (λ store. stored (along (home_of slot store) path) checked store)
-  store_at type (window slot of_component) datum = do
-    checked ← answered (fits table of_component datum)
-    value ← number_of checked
-    file ← ask (λ store. fine (file_number slot store))
-    change_file file (files.buffer_set (nat_abs value))
+  store_at type (part slot path) datum =
+      changed (λ store. put_at table type (along (home_of slot store) path) datum store)
+  store_at type (window file of_component) datum = do
+    byte ← answered (then_answer (fits table of_component datum) (byte_of OUT_OF_RANGE))
+    on_file file (λ number. change_file number (files.buffer_set byte))
 
 -- calls
 
@@ -152,11 +158,6 @@ defined_result datum = wrong UNDEFINED_RESULT
 abbrev pub body_of : TypedProgram → ℕ → Option Body
 body_of program routine = find (λ body. body.routine == routine) program.bodies
 
--- a status is from 0 to 255
-abbrev pub status_of : ℤ → Answer ℕ
-status_of value =
-    if int_le (pos 0) value && int_le value (pos 255) then fine (nat_abs value) else wrong STATUS_OUT_OF_RANGE
-
 -- a `for`: whether one limit is past the other, and the next value
 abbrev pub is_past : Way → ℤ → ℤ → Bool
 is_past way.Up first last = not (int_le first last)
@@ -169,12 +170,17 @@ next_value way.Down value = value -ℤ pos 1
 abbrev pub forget : Slot → Store → Store
 forget slot store = stored (home_of slot store) undefined store
 
--- the file that a place means, and the type of its components
-abbrev pub file_of : Spot → Store → Answer ℕ
-file_of spot store = fine (file_number (slot_of spot) store)
+-- f^ of components of a type, and the type of the components of a file
+abbrev pub buffer_of : Slot → PasType → Place
+buffer_of file type = typed.buffer (typed.slot file) type
 
 abbrev pub components_of : Table → Place → PasType
 components_of table file = unwrap_or (component_of table (type_of_place file)) (whole char)
+
+-- what a test of a file asks
+abbrev pub test_of : FileTest → File → Answer Bool
+test_of typed.eof = files.eof
+test_of typed.eoln = files.eoln
 
 -- the label at which a statement is entered
 abbrev pub label_in : Entry → Option ℕ
@@ -192,7 +198,7 @@ module _ (limit : Option ℕ) (program : TypedProgram) (below : Doings) where
   body_run (Some body) arguments = do
     change (λ store. opened (cells_for program body arguments store) store)
     flow ← below start (typed.compound body.statements)
-    result ← ask (λ store. fine (result_of (length body.variables) store))
+    result ← ask (λ store world. fine (result_of (length body.variables) store))
     change closed
     end_call
     pure result
@@ -203,141 +209,137 @@ module _ (limit : Option ℕ) (program : TypedProgram) (below : Doings) where
     begin_call limit
     body_run (body_of program routine) arguments
 
-  -- what a test of a file tells
-  abbrev pub test_file : FileTest → ℕ → Doing Store Datum
-  test_file typed.eof file = ask_file file files.eof >>= (λ found. pure (boolean found))
-  test_file typed.eoln file = ask_file file files.eoln >>= (λ found. pure (boolean found))
-
   abbrev mutual
     pub value : Value → Doing Store Datum
     value (typed.constant base found) = pure (holds found)
     value (typed.read place) = do
       spot ← spot_at place
-      read_at program.types (type_of_place place) spot
+      ask (read_at program.types (type_of_place place) spot)
     value (typed.call routine type passed) = do
       arguments ← arguments_of passed
       result ← call routine arguments
       answered (defined_result result)
     value (typed.applied function argument) = do
-      found ← numbered (value argument)
+      found ← operand number_of (value argument)
       result ← answered (function_at function found)
       pure (holds result)
     value (typed.tested test place) = do
-      spot ← spot_at place
-      file ← ask (file_of spot)
-      test_file test file
+      file ← answered (file_variable place)
+      found ← ask (of_file file (test_of test))
+      pure (boolean found)
     value (typed.parenthesized inner) = value inner
-    value (typed.signed sign operand) = do
-      found ← numbered (value operand)
-      pure (holds (signed sign found))
-    value (typed.negated operand) = do
-      found ← numbered (value operand)
-      pure (boolean (not (is_true found)))
+    value (typed.signed sign argument) = do
+      found ← operand number_of (value argument)
+      result ← answered (signed sign found)
+      pure (holds result)
+    value (typed.negated argument) = do
+      found ← operand truth_of (value argument)
+      pure (boolean (not found))
     value (typed.product left multiplying.And right) = do
-      first ← numbered (value left)
-      (if is_true first then value right else pure (holds first))
+      first ← operand truth_of (value left)
+      (if first then operand (fits program.types (whole base.boolean)) (value right) else pure (boolean false))
     value (typed.product left op right) = do
-      first ← numbered (value left)
-      second ← numbered (value right)
+      first ← operand number_of (value left)
+      second ← operand number_of (value right)
       result ← answered (multiplied op first second)
       pure (holds result)
     value (typed.addition left adding.Or right) = do
-      first ← numbered (value left)
-      (if is_true first then pure (holds first) else value right)
+      first ← operand truth_of (value left)
+      (if first then pure (boolean true) else operand (fits program.types (whole base.boolean)) (value right))
     value (typed.addition left op right) = do
-      first ← numbered (value left)
-      second ← numbered (value right)
+      first ← operand number_of (value left)
+      second ← operand number_of (value right)
       result ← answered (added op first second)
       pure (holds result)
     value (typed.comparison left relation right) = do
-      first ← numbered (value left)
-      second ← numbered (value right)
+      first ← operand number_of (value left)
+      second ← operand number_of (value right)
       pure (boolean (compared relation first second))
 
-    -- a place: each index is checked when it is evaluated
+    -- a place: its indexes are operands
     pub spot_at : Place → Doing Store Spot
     spot_at (typed.slot slot) = pure (part slot [])
     spot_at (typed.element place range type index) = do
       spot ← spot_at place
-      found ← numbered (value index)
-      checked ← answered (in_range INDEX_OUT_OF_RANGE range found)
-      pure (along_part spot (offset_in range checked))
+      number ← operand (element range) (value index)
+      pure (along_part spot number)
     spot_at (typed.field place field type) = do
       spot ← spot_at place
       pure (along_part spot field)
     spot_at (typed.buffer place type) = do
-      spot ← spot_at place
-      pure (window (slot_of spot) type)
+      file ← answered (file_variable place)
+      pure (window file type)
 
-    -- arguments, from left to right: the range of each value is checked when it is evaluated
+    -- arguments, from left to right
     pub arguments_of : Passed → Doing Store (List Argument)
     arguments_of typed.nothing = pure []
     arguments_of (typed.value type argument others) = do
-      datum ← value argument
-      checked ← answered (fits program.types type datum)
+      datum ← operand (fits program.types type) (value argument)
       arguments ← arguments_of others
-      pure (copied checked ∷ arguments)
+      pure (copied datum ∷ arguments)
     arguments_of (typed.reference place others) = do
       spot ← spot_at place
       arguments ← arguments_of others
       pure (meant spot ∷ arguments)
 
-  -- a value that is a number
-  abbrev pub number_value : Value → Doing Store ℤ
-  number_value found = numbered (value found)
-
-  -- read(f, v) is v := f^; get(f)
-  abbrev pub read_item : PasType → ℕ → Place → Doing Store (Unit {0})
-  read_item type file place = do
-    byte ← ask_file file files.buffer_read
-    datum ← answered (component program.types type byte)
+  -- v := what is given
+  abbrev pub assigned : Place → Datum → Doing Store (Unit {0})
+  assigned place datum = do
     spot ← spot_at place
     store_at program.types (type_of_place place) spot datum
-    change_file file files.get
-
-  abbrev pub read_items : PasType → ℕ → List Place → Doing Store (Unit {0})
-  read_items type file [] = pure tt
-  read_items type file (place ∷ places) = read_item type file place >> read_items type file places
-
-  -- what is written on a text: a value, and then its width
-  abbrev pub write_field : ℕ → (ℕ → List ℕ) → ℕ → Option Value → Doing Store (Unit {0})
-  write_field file bytes_for width None = append file (files.written (bytes_for width))
-  write_field file bytes_for width (Some given) = do
-    found ← number_value given
-    append file (files.written_with bytes_for found)
-
-  abbrev pub write_item : ℕ → Item → Doing Store (Unit {0})
-  write_item file (typed.number_item item width) = do
-    found ← number_value item
-    write_field file (λ field. number_in_field field found) 1 width
-  write_item file (typed.char_item item width) = do
-    found ← number_value item
-    write_field file (λ field. char_in_field field (nat_abs found)) 1 width
-  write_item file (typed.string_item bytes width) =
-      write_field file (λ field. string_in_field field bytes) (length bytes) width
-
-  abbrev pub write_items : ℕ → List Item → Doing Store (Unit {0})
-  write_items file [] = pure tt
-  write_items file (item ∷ items) = write_item file item >> write_items file items
-
-  -- write(f, e) on a byte file is f^ := e; put(f)
-  abbrev pub write_byte : PasType → ℕ → Value → Doing Store (Unit {0})
-  write_byte type file item = do
-    datum ← value item
-    checked ← answered (fits program.types type datum)
-    found ← number_of checked
-    change_file file (files.buffer_set (nat_abs found))
-    put file
-
-  abbrev pub write_bytes : PasType → ℕ → List Value → Doing Store (Unit {0})
-  write_bytes type file [] = pure tt
-  write_bytes type file (item ∷ items) = write_byte type file item >> write_bytes type file items
 
   abbrev pub file_step : FileStep → ℕ → Doing Store (Unit {0})
   file_step typed.reset file = reset file
   file_step typed.rewrite file = rewrite file
   file_step typed.get file = change_file file files.get
   file_step typed.put file = put file
+
+  -- read(f, v) is v := f^; get(f)
+  abbrev pub read_item : PasType → Slot → Place → Doing Store (Unit {0})
+  read_item type file place = do
+    datum ← value (typed.read (buffer_of file type))
+    assigned place datum
+    on_file file (file_step typed.get)
+
+  abbrev pub read_items : PasType → Slot → List Place → Doing Store (Unit {0})
+  read_items type file [] = pure tt
+  read_items type file (place ∷ places) = read_item type file place >> read_items type file places
+
+  -- what is written on a text: a value, and then its width, if that is given
+  abbrev pub width_or : ℕ → Option Value → Doing Store ℤ
+  width_or width None = pure (pos width)
+  width_or width (Some given) = operand number_of (value given)
+
+  abbrev pub write_field : Slot → (ℕ → List ℕ) → ℤ → Doing Store (Unit {0})
+  write_field file bytes_for width = on_file file (λ number. append number (files.written bytes_for width))
+
+  abbrev pub write_item : Slot → Item → Doing Store (Unit {0})
+  write_item file (typed.number_item item given) = do
+    found ← operand number_of (value item)
+    width ← width_or 1 given
+    write_field file (λ field. number_in_field field found) width
+  write_item file (typed.char_item item given) = do
+    found ← operand (byte_of OUT_OF_RANGE) (value item)
+    width ← width_or 1 given
+    write_field file (λ field. char_in_field field found) width
+  write_item file (typed.string_item bytes given) = do
+    width ← width_or (length bytes) given
+    write_field file (λ field. string_in_field field bytes) width
+
+  abbrev pub write_items : Slot → List Item → Doing Store (Unit {0})
+  write_items file [] = pure tt
+  write_items file (item ∷ items) = write_item file item >> write_items file items
+
+  -- write(f, e) on a byte file is f^ := e; put(f)
+  abbrev pub write_byte : PasType → Slot → Value → Doing Store (Unit {0})
+  write_byte type file item = do
+    datum ← value item
+    assigned (buffer_of file type) datum
+    on_file file (file_step typed.put)
+
+  abbrev pub write_bytes : PasType → Slot → List Value → Doing Store (Unit {0})
+  write_bytes type file [] = pure tt
+  write_bytes type file (item ∷ items) = write_byte type file item >> write_bytes type file items
 
   -- behind a list, a jump to one of its labels enters it there; its step is taken where it lands
   abbrev pub entered : Statements → (ℕ → Entry) → Statement → ℕ → Doing Store Flow
@@ -358,13 +360,13 @@ module _ (limit : Option ℕ) (program : TypedProgram) (below : Doings) where
   -- of a `for`, which is at its end where the variable has the last value
   abbrev pub while_turn : Value → Doing Store Flow → Doing Store Flow
   while_turn test list = do
-    found ← number_value test
-    (if is_true found then list else pure leaves)
+    found ← operand truth_of (value test)
+    (if found then list else pure leaves)
 
   abbrev pub until : Value → Doing Store Flow
   until test = do
-    found ← number_value test
-    (if is_true found then pure leaves else pure next)
+    found ← operand truth_of (value test)
+    (if found then pure leaves else pure next)
 
   abbrev pub repeat_turn : Value → Doing Store Flow → Doing Store Flow
   repeat_turn test list = do
@@ -379,7 +381,7 @@ module _ (limit : Option ℕ) (program : TypedProgram) (below : Doings) where
 
   abbrev pub counted : Slot → Way → ℤ → Doing Store Flow
   counted slot way last = do
-    found ← ask (λ store. number_at (home_of slot store) store)
+    found ← ask (λ store world. number_at (home_of slot store) store)
     (if is_same found last then pure leaves else next_value_stored slot way found)
 
   abbrev pub for_turn : Slot → Way → ℤ → Doing Store Flow → Doing Store Flow
@@ -402,13 +404,11 @@ module _ (limit : Option ℕ) (program : TypedProgram) (below : Doings) where
     statement from typed.empty = pure next
     statement from (typed.assigns place right) = do
       datum ← value right
-      spot ← spot_at place
-      store_at program.types (type_of_place place) spot datum
+      assigned place datum
       pure next
     statement from (typed.sets_result cell type right) = do
-      datum ← value right
-      checked ← answered (fits program.types type datum)
-      change (with_result cell checked)
+      datum ← operand (fits program.types type) (value right)
+      change (with_result cell datum)
       pure next
     statement from (typed.calls routine passed) = do
       arguments ← arguments_of passed
@@ -416,16 +416,16 @@ module _ (limit : Option ℕ) (program : TypedProgram) (below : Doings) where
       pure next
     statement from (typed.compound list) = items (label_in from) list >>= behind_list list (typed.compound list)
     statement from (typed.if_then test s) = do
-      found ← number_value test
-      (if is_true found then statement start s else pure next)
+      found ← operand truth_of (value test)
+      (if found then statement start s else pure next)
     statement from (typed.if_else test s t) = do
-      found ← number_value test
-      (if is_true found then statement start s else statement start t)
+      found ← operand truth_of (value test)
+      (if found then statement start s else statement start t)
     statement from (typed.case selector arms) = do
-      found ← number_value selector
+      found ← operand number_of (value selector)
       arm found arms (answered (wrong NO_CASE_MATCHES))
     statement from (typed.case_others selector arms s) = do
-      found ← number_value selector
+      found ← operand number_of (value selector)
       arm found arms (statement start s)
     statement again (typed.while test list) =
         while_turn test (items None list) >>= looped list at again (typed.while test list)
@@ -446,48 +446,41 @@ module _ (limit : Option ℕ) (program : TypedProgram) (below : Doings) where
         for_turn slot way last (items (Some label) list)
         >>= looped list (turn_at last) (turn last) (typed.for slot way first limit_value list)
     statement from (typed.for slot way first limit_value list) = do
-      low ← number_value first
-      high ← number_value limit_value
+      low ← operand number_of (value first)
+      high ← operand number_of (value limit_value)
       for_from slot way low high (take_step >> (for_turn slot way high (items None list)
           >>= looped list (turn_at high) (turn high) (typed.for slot way first limit_value list)))
     statement from (typed.goto label) = pure (jump label)
     statement from (typed.goto_last status) = stop (halted status)
     statement from (typed.file_step step place) = do
-      spot ← spot_at place
-      file ← ask (file_of spot)
-      file_step step file
+      file ← answered (file_variable place)
+      on_file file (file_step step)
       pure next
     statement from (typed.reads place places) = do
-      spot ← spot_at place
-      file ← ask (file_of spot)
+      file ← answered (file_variable place)
       read_items (components_of program.types place) file places
       pure next
     statement from (typed.reads_line place places) = do
-      spot ← spot_at place
-      file ← ask (file_of spot)
+      file ← answered (file_variable place)
       read_items (components_of program.types place) file places
-      change_file file files.readln
+      on_file file (λ number. change_file number files.readln)
       pure next
     statement from (typed.writes place written) = do
-      spot ← spot_at place
-      file ← ask (file_of spot)
+      file ← answered (file_variable place)
       write_items file written
       pure next
     statement from (typed.writes_line place written) = do
-      spot ← spot_at place
-      file ← ask (file_of spot)
+      file ← answered (file_variable place)
       write_items file written
-      append file (files.written (line_end ∷ []))
+      on_file file (λ number. append number files.writeln)
       pure next
     statement from (typed.writes_bytes place written) = do
-      spot ← spot_at place
-      file ← ask (file_of spot)
+      file ← answered (file_variable place)
       write_bytes (components_of program.types place) file written
       pure next
     statement from (typed.halts status) = do
-      found ← number_value status
-      checked ← answered (status_of found)
-      stop (halted checked)
+      found ← operand (byte_of STATUS_OUT_OF_RANGE) (value status)
+      stop (halted found)
 
     -- the statements of a list in order, or those from a label on
     pub items : Option ℕ → Statements → Doing Store Flow

@@ -1,11 +1,11 @@
 -- The variables of a run (ISO 7185, 6.5): the activations, the program's first, and references into them.
-use Rattle.std.specs.Prelude.{ℕ, zero, suc, ◌-◌, ℤ, nat_abs, if◌then◌else◌, List}
+use Rattle.std.specs.Prelude.{ℕ, zero, suc, ◌-◌, ℤ, if◌then◌else◌, List}
 use Rattle.std.specs.Prelude.{[]}
 use Rattle.std.specs.Prelude.{◌∷◌, ◌++◌, length, map, take, slice_index_or, slice_set, Option, Some, None}
 use Rattle.pas_typed.specs.Types as types
-use Rattle.pas_typed.specs.Types.{Range, PasType, Field, Structure, TableRow, Table, count_of, range_of, is_within}
+use Rattle.pas_typed.specs.Types.{Range, PasType, Structure, Table, count_of, range_of, is_within}
 use Rattle.pas_typed.specs.Typed as typed
-use Rattle.pas_typed.specs.Typed.{Slot, Variable}
+use Rattle.pas_typed.specs.Typed.{Slot}
 use Rattle.pas_meaning.specs.declared.errors.TheConstants.{UNDEFINED_VALUE, OUT_OF_RANGE}
 use Rattle.pas_meaning.specs.Answers.{Answer, fine, wrong, then_answer, or_wrong}
 
@@ -128,18 +128,21 @@ stored reference datum store =
     with_cell reference.activation reference.variable
     (own (with_part_at reference.path datum (held_by (cell_at reference.activation reference.variable store)))) store
 
--- the number that a datum is, and one that must be in a range
+-- the number that a datum is, that is held there, and one that must be in a range
 abbrev pub number_in : Datum → Option ℤ
 number_in (holds value) = Some value
 number_in datum = None
 
+abbrev pub number_of : Datum → Answer ℤ
+number_of datum = or_wrong UNDEFINED_VALUE (number_in datum)
+
 abbrev pub number_at : Reference → Store → Answer ℤ
-number_at reference store = or_wrong UNDEFINED_VALUE (number_in (fetched reference store))
+number_at reference store = number_of (fetched reference store)
 
 abbrev pub in_range : ℕ → Range → ℤ → Answer ℤ
 in_range kind range value = if is_within range value then fine value else wrong kind
 
--- a datum for a type: a number of an ordinal type is in its range, anything else is passed as it is
+-- a datum for a type: one of an ordinal type is defined and in its range, one of any other type is passed as it is
 abbrev pub number_for : Range → Option ℤ → Answer Datum
 number_for range None = wrong UNDEFINED_VALUE
 number_for range (Some value) = then_answer (in_range OUT_OF_RANGE range value) (λ checked. fine (holds checked))
@@ -151,21 +154,18 @@ fits_by (Some range) datum = number_for range (number_in datum)
 abbrev pub fits : Table → PasType → Datum → Answer Datum
 fits table type datum = fits_by (range_of table type) datum
 
+-- the variables after a datum for a type is stored there
+abbrev pub put_at : Table → PasType → Reference → Datum → Store → Answer Store
+put_at table type reference datum store =
+    then_answer (fits table type datum) (λ checked. fine (stored reference checked store))
+
 -- what is read for a type: an ordinal is defined
 abbrev pub defined_by : Option Range → Datum → Answer Datum
 defined_by None datum = fine datum
-defined_by (Some range) datum = then_answer (or_wrong UNDEFINED_VALUE (number_in datum)) (λ value. fine (holds value))
+defined_by (Some range) datum = then_answer (number_of datum) (λ value. fine (holds value))
 
 abbrev pub fetched_as : Table → PasType → Reference → Store → Answer Datum
 fetched_as table type reference store = defined_by (range_of table type) (fetched reference store)
-
--- the file that a file variable stands for: it holds its number from the start
-abbrev pub file_number_in : Datum → ℕ
-file_number_in (holds value) = nat_abs value
-file_number_in datum = 0
-
-abbrev pub file_number : Slot → Store → ℕ
-file_number slot store = file_number_in (fetched (home_of slot store) store)
 
 -- activations come and go at the end
 abbrev pub opened : List Cell → Store → Store

@@ -4,7 +4,7 @@ use Rattle.pas_syntax.specs.declared.operators.Sign.TheVariants as sign
 use Rattle.pas_syntax.specs.declared.operators.Multiplying.TheVariants as multiplying
 use Rattle.pas_syntax.specs.declared.operators.Adding.TheVariants as adding
 use Rattle.pas_syntax.specs.declared.operators.Way.TheVariants as way
-use Rattle.pas_typed.specs.Types.{whole, integer, char, text}
+use Rattle.pas_typed.specs.Types.{Range, whole, integer, char, text, row, array}
 use Rattle.pas_typed.specs.Typed as typed
 use Rattle.pas_typed.specs.Typed.{Variable, Slot, Value, Place, Statement, Statements, Heading, Body, TypedProgram}
 use Rattle.pas_meaning.specs.declared.errors.TheConstants.{UNDEFINED_VALUE}
@@ -91,7 +91,7 @@ pub quotients_written : shown (pascal_trial quotients ([] ∷ []) 0)
 unfolding pascal_trial
 quotients_written = refl
 
--- while true do write(output,'1')
+-- a `while` of which the test is always true, and which writes a byte a turn
 abbrev forever : TypedProgram
 forever = program_of (only (typed.while (number 1) (only (written (letter 49) None))))
 
@@ -116,3 +116,82 @@ pub goto_takes_a_step : shown (pascal_trial (program_of (typed.item (Some 5) (wr
     (typed.goto 5)))) ([] ∷ []) 2) ≡ record { ending = ended going; bytes = codes "111" ∷ [] }
 unfolding pascal_trial
 goto_takes_a_step = refl
+
+-- program t(output);var i:integer;a:array[1..2] of integer;
+-- function f(var x:integer):integer;begin x:=x+1;f:=7 end;
+-- begin i:=1;a[1]:=0;a[2]:=0;a[i]:=f(i);write(output,chr(a[1]+48),chr(a[2]+48)) end.
+abbrev one_to_two : Range
+one_to_two = record { base = integer; low = pos 1; high = pos 2 }
+
+abbrev a : Variable
+a = record { name = codes "a"; mode = typed.declared; type = row 0 }
+
+abbrev element_at : Value → Place
+element_at index =
+    typed.element (typed.slot (record { home = typed.global; number = 2; mode = typed.declared; type = row 0 }))
+    one_to_two (whole integer) index
+
+abbrev x : Variable
+x = record { name = codes "x"; mode = typed.by_name; type = whole integer }
+
+abbrev the_x : Place
+the_x = typed.slot (record { home = typed.local; number = 0; mode = typed.by_name; type = whole integer })
+
+abbrev list_of : List Statement → Statements
+list_of [] = typed.no_statements
+list_of (s ∷ statements) = typed.item None s (list_of statements)
+
+abbrev index_behind_right_side : TypedProgram
+index_behind_right_side = record (program_of (list_of (
+    typed.assigns (typed.slot slot_i) (number 1)
+    ∷ typed.assigns (element_at (number 1)) (number 0)
+    ∷ typed.assigns (element_at (number 2)) (number 0)
+    ∷ typed.assigns (element_at (typed.read (typed.slot slot_i)))
+    (typed.call 0 (whole integer) (typed.reference (typed.slot slot_i) typed.nothing))
+    ∷ written (digit (typed.read (element_at (number 1)))) None
+    ∷ written (digit (typed.read (element_at (number 2)))) None ∷ []))) {
+      types = record { structure = array one_to_two (whole integer); cells = 2 } ∷ [];
+      globals = output ∷ i ∷ a ∷ [];
+      headings = record { name = codes "f"; result = Some (whole integer); parameters = x ∷ [] } ∷ [];
+      bodies = record {
+        routine = 0;
+        variables = x ∷ [];
+        labels = [];
+        statements = list_of (typed.assigns the_x (typed.addition (typed.read the_x) adding.Plus (number 1))
+            ∷ typed.sets_result 1 (whole integer) (number 7) ∷ []);
+      } ∷ [];
+    }
+
+pub index_is_evaluated_last : shown (pascal_trial index_behind_right_side ([] ∷ []) 1)
+    ≡ record { ending = ended (halted 0); bytes = codes "07" ∷ [] }
+unfolding pascal_trial
+index_is_evaluated_last = refl
+
+-- program t(input,output);var c:char; while not eof(input) do begin read(input,c);write(output,c) end
+abbrev input : Variable
+input = record { name = codes "input"; mode = typed.declared; type = text }
+
+abbrev c : Variable
+c = record { name = codes "c"; mode = typed.declared; type = whole char }
+
+abbrev the_input : Place
+the_input = typed.slot (record { home = typed.global; number = 0; mode = typed.declared; type = text })
+
+abbrev the_second_output : Place
+the_second_output = typed.slot (record { home = typed.global; number = 1; mode = typed.declared; type = text })
+
+abbrev the_c : Place
+the_c = typed.slot (record { home = typed.global; number = 2; mode = typed.declared; type = whole char })
+
+abbrev copying : TypedProgram
+copying = record (program_of (only (typed.while (typed.negated (typed.tested typed.eof the_input)) (list_of (
+    typed.reads the_input (the_c ∷ [])
+    ∷ typed.writes the_second_output (typed.char_item (typed.read the_c) None ∷ []) ∷ []))))) {
+      globals = input ∷ output ∷ c ∷ [];
+      files = 0 ∷ 1 ∷ [];
+    }
+
+pub text_is_copied : shown (pascal_trial copying (codes "ab" ∷ [] ∷ []) 4)
+    ≡ record { ending = ended (halted 0); bytes = codes "ab" ∷ codes "ab " ∷ [] }
+unfolding pascal_trial
+text_is_copied = refl
