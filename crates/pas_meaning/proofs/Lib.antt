@@ -3,3 +3,4 @@ pub mod GoesLemmas
 pub mod BoundLemmas
 pub mod DepthLemmas
 pub mod TrialLemmas
+pub mod CellLemmas

@@ -4,6 +4,7 @@ pub mod Fields
 pub mod Outcome
 pub mod FileSteps
 pub mod Store
+pub mod Cells
 pub mod Arithmetic
 pub mod Operands
 pub mod Run

@@ -14,16 +14,16 @@ mutual
     several : Shapes → Shape
 
   pub data Shapes : Type 0 where
-    no_shapes : Shapes
+    no_shape : Shapes
     with_shape : Shape → Shapes → Shapes
 
 -- so many of a shape, and the shapes of a list
 abbrev pub so_many : ℕ → Shape → Shapes
-so_many zero shape = no_shapes
+so_many zero shape = no_shape
 so_many (suc count) shape = with_shape shape (so_many count shape)
 
 abbrev pub all_shapes : List Shape → Shapes
-all_shapes [] = no_shapes
+all_shapes [] = no_shape
 all_shapes (shape ∷ shapes) = with_shape shape (all_shapes shapes)
 
 -- how many cells a shape has
@@ -33,25 +33,25 @@ abbrev mutual
   size (several shapes) = total shapes
 
   pub total : Shapes → ℕ
-  total no_shapes = 0
+  total no_shape = 0
   total (with_shape shape shapes) = size shape + total shapes
 
 -- the shapes of the parts, how many there are, the one with a number, and how many cells stand before it
 abbrev pub shapes_in : Shape → Shapes
-shapes_in one_cell = no_shapes
+shapes_in one_cell = no_shape
 shapes_in (several shapes) = shapes
 
 abbrev pub count : Shapes → ℕ
-count no_shapes = 0
+count no_shape = 0
 count (with_shape shape shapes) = suc (count shapes)
 
 abbrev pub shape_at : Shapes → ℕ → Shape
-shape_at no_shapes number = one_cell
+shape_at no_shape number = one_cell
 shape_at (with_shape first others) zero = first
 shape_at (with_shape first others) (suc number) = shape_at others number
 
 abbrev pub cells_before : Shapes → ℕ → ℕ
-cells_before no_shapes number = 0
+cells_before no_shape number = 0
 cells_before (with_shape first others) zero = 0
 cells_before (with_shape first others) (suc number) = size first + cells_before others number
 
