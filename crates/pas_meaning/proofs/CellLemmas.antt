@@ -3,7 +3,7 @@ use Rattle.std.proofs.Common.{◌≡◌, ℕ, zero, suc, ◌+◌, ◌<◌, ◌�
 use Rattle.std.proofs.Common.{Option, Some, None, arith, refl, sym, ap, ap₂, ◌∙◌, subst, append_assoc, append-nil, length-append}
 use Rattle.std.proofs.Common.{slice_index_or}
 use Rattle.std.proofs.Math.ListN.{get_or-map}
-use Rattle.std.proofs.lemmas.List.{take_at, drop_at, append_cancel_left, map-append}
+use Rattle.std.proofs.lemmas.List.{take_at, drop_at, map-append, replicate-append-replicate}
 use Rattle.pas_typed.specs.Types as types
 use Rattle.pas_typed.specs.Types.{Field, PasType, Structure, TableRow, Table, count_of}
 use Rattle.pas_typed.specs.Shapes as shapes
@@ -214,7 +214,7 @@ module _ (path : List ℕ) (shape part : Shape) (datum : Datum) (is : IsShaped s
       length-flat part (part_at path datum) (part_at-shaped path shape part datum is leads)))))
 
 -- a blank of a shape: each cell is undefined
-mutual
+abbrev mutual
   pub blank : Shape → Datum
   blank one_cell = undefined
   blank (several shapes) = parts (blanks shapes)
@@ -222,3 +222,78 @@ mutual
   pub blanks : Shapes → Data
   blanks no_shape = no_parts
   blanks (with_shape shape shapes) = with_part (blank shape) (blanks shapes)
+
+mutual
+  pub blank-shaped : (shape : Shape) → IsShaped shape (blank shape)
+  blank-shaped one_cell = tt
+  blank-shaped (several shapes) = blanks-shaped shapes
+
+  pub blanks-shaped : (shapes : Shapes) → AreShaped shapes (blanks shapes)
+  blanks-shaped no_shape = tt
+  blanks-shaped (with_shape shape shapes) = (blank-shaped shape, blanks-shaped shapes)
+
+mutual
+  pub flat-blank : (shape : Shape) → flat (blank shape) ≡ replicate (size shape) None
+  flat-blank one_cell = refl
+  flat-blank (several shapes) = flat-blanks shapes
+
+  pub flat-blanks : (shapes : Shapes) → flat_parts (blanks shapes) ≡ replicate (total shapes) None
+  flat-blanks no_shape = refl
+  flat-blanks (with_shape shape shapes) =
+      ap₂ (λ first rest. first ++ rest) (flat-blank shape) (flat-blanks shapes)
+      ∙ replicate-append-replicate (size shape) (total shapes) None
+
+-- a part ends within its shape
+pub offset_within : (path : List ℕ) (shape part : Shape) → Leads shape path part
+    → offset shape path + size part ≤ size shape
+offset_within path shape part leads =
+    let is = blank-shaped shape in
+    let on = stands_at path shape part (blank shape) is leads in
+    let old = flat (part_at path (blank shape)) in
+    omega (arith, length-flat shape (blank shape) is, ap length on.now, length-append on.before (old ++ on.behind),
+    length-append old on.behind, on.begins, length-flat part _ (part_at-shaped path shape part (blank shape) is leads))
+
+-- a variable of a type begins as the blank of its shape
+blanks-so_many : (count : ℕ) (shape : Shape) → blanks (shapes.so_many count shape) ≡ store.so_many count (blank shape)
+blanks-so_many zero shape = refl
+blanks-so_many (suc count) shape = ap (with_part (blank shape)) (blanks-so_many count shape)
+
+blank-by : (shapes : List Shape) (type : PasType) → blank_by (map blank shapes) type ≡ blank (shape_by shapes type)
+blank-by shapes (types.whole base) = refl
+blank-by shapes types.text = refl
+blank-by shapes (types.row number) = get_or-map blank shapes number one_cell
+
+blank-fields : (shapes : List Shape) (found : List Field)
+    → all_parts (map (λ (field : Field). blank_by (map blank shapes) field.type) found)
+    ≡ blanks (all_shapes (map (λ (field : Field). shape_by shapes field.type) found))
+blank-fields shapes [] = refl
+blank-fields shapes (field ∷ found) = ap₂ with_part (blank-by shapes field.type) (blank-fields shapes found)
+
+blank-in : (shapes : List Shape) (structure : Structure)
+    → blank_in (map blank shapes) structure ≡ blank (shape_in shapes structure)
+blank-in shapes (types.subrange range) = refl
+blank-in shapes (types.array indexes element) =
+    ap (λ datum. parts (store.so_many (count_of indexes) datum)) (blank-by shapes element)
+    ∙ ap parts (sym (blanks-so_many (count_of indexes) (shape_by shapes element)))
+blank-in shapes (types.fields found) = ap parts (blank-fields shapes found)
+blank-in shapes (types.file component) = refl
+
+blanks-behind : (shapes : List Shape) (table : Table)
+    → blanks_behind (map blank shapes) table ≡ map blank (shapes_behind shapes table)
+blanks-behind shapes [] = refl
+blanks-behind shapes (found ∷ table) =
+    ap (λ blanks. blanks_behind blanks table)
+    (ap (λ last. map blank shapes ++ last ∷ []) (blank-in shapes found.structure) ∙ sym (map-append blank shapes _))
+    ∙ blanks-behind (shapes ++ shape_in shapes found.structure ∷ []) table
+
+pub blank_of-shape : (table : Table) (type : PasType) → blank_of table type ≡ blank (shape_of table type)
+blank_of-shape table type =
+    ap (λ blanks. blank_by blanks type) (blanks-behind [] table) ∙ blank-by (shapes_behind [] table) type
+
+pub blank_of-shaped : (table : Table) (type : PasType) → IsShaped (shape_of table type) (blank_of table type)
+blank_of-shaped table type =
+    subst (IsShaped (shape_of table type)) (sym (blank_of-shape table type)) (blank-shaped (shape_of table type))
+
+pub flat-blank_of : (table : Table) (type : PasType)
+    → flat (blank_of table type) ≡ replicate (size (shape_of table type)) None
+flat-blank_of table type = ap flat (blank_of-shape table type) ∙ flat-blank (shape_of table type)
