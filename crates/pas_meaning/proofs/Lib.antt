@@ -4,3 +4,4 @@ pub mod BoundLemmas
 pub mod DepthLemmas
 pub mod TrialLemmas
 pub mod CellLemmas
+pub mod StandingLemmas

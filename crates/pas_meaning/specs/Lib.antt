@@ -10,4 +10,5 @@ pub mod Operands
 pub mod Run
 pub mod Trial
 pub mod Laws
+pub mod Standing
 pub mod TrialRows
