@@ -5,3 +5,4 @@ pub mod DepthLemmas
 pub mod TrialLemmas
 pub mod CellLemmas
 pub mod StandingLemmas
+pub mod KeepsLemmas

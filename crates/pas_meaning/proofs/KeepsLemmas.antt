@@ -1,0 +1,164 @@
+-- What keeps the variables in their shapes: the rules of each way to put steps together, and the steps themselves.
+use Rattle.std.proofs.Common.{◌≡◌, ℕ, zero, suc, ◌+◌, ◌-◌, ◌<◌, ◌≤◌, List, [], ◌∷◌, ◌++◌, length, map, take, drop, Option}
+use Rattle.std.proofs.Common.{Some, None, Bool, true, false, ◌&&◌, if◌then◌else◌, IsSome, ℤ, nat_abs, ◌-ℤ◌, ◌≤ℤ◌, slice_get, arith}
+use Rattle.std.proofs.Common.{refl, sym, ap, ap₂, ◌∙◌, subst, inl, inr, ◌⊎◌, All}
+use Rattle.std.specs.Prelude.{⊤, int_le}
+use Rattle.std.proofs.lemmas.Option.{slice_get_within, same_Some, get_or_from_slice_get}
+use Rattle.std.proofs.lemmas.Int.{ints}
+use Rattle.std.proofs.lemmas.Float.{T_from_true}
+use lib.Signed.{le_z_yes}
+use Rattle.pas_typed.specs.Types.{Range, PasType, Table, range_of, count_of, is_within}
+use Rattle.pas_typed.specs.Typed as typed
+use Rattle.pas_typed.specs.Typed.{Mode, Home, Slot, Variable, TypedProgram}
+use Rattle.pas_typed.specs.Shapes.{Shape, one_cell, Leads, shape_of, IsLawfulTable}
+use Rattle.pas_typed.specs.Lawful.{IsOrdinal, Takes, IsDeclared, AreDeclared, variables_of, IsLawfulSlot, IsLawful}
+use Rattle.pas_typed.proofs.ShapeLemmas.{leads_on, shape_of-ordinal}
+use Rattle.pas_meaning.specs.declared.errors.TheConstants.{OUT_OF_RANGE, INDEX_OUT_OF_RANGE}
+use Rattle.pas_meaning.specs.Answers.{Answer, fine, wrong, then_answer}
+use Rattle.pas_meaning.specs.Files as files
+use Rattle.pas_meaning.specs.Outcome.{World, Run, Outcome, gives, ends, errs, Doing, pure, and_then, ◌>>=◌, ◌>>◌, answered}
+use Rattle.pas_meaning.specs.Outcome.{ask, change, changed, Worldly, passes, stops, fails, led, worldly, End, stop}
+use Rattle.pas_meaning.specs.Store.{Datum, undefined, holds, Cell, own, refers, Reference, Store, cell_at, followed, home_by, home_of}
+use Rattle.pas_meaning.specs.Store.{top_of, along, fetched, stored, number_in, number_of, in_range, number_for, fits_by, fits}
+use Rattle.pas_meaning.specs.Store.{put_at, defined_by, fetched_as}
+use Rattle.pas_meaning.specs.Operands.{operand, element, byte_of, number_within}
+use Rattle.pas_meaning.specs.Run as run
+use Rattle.pas_meaning.specs.Run.{Flow, Spot, slot_of, path_of}
+use Rattle.pas_meaning.specs.FileSteps.{change_file}
+use Rattle.pas_meaning.specs.Cells.{IsShaped}
+use Rattle.pas_meaning.specs.Standing.{Kind, plain, named, kind_by, kind_of, Kinds, kind_at, Aims, Matches, Stands, Leaves}
+use Rattle.pas_meaning.specs.Standing.{Keeps, Knows}
+use Rattle.pas_meaning.proofs.StandingLemmas.{aims_along, fetched_shaped, stands_stored}
+
+-- P holds of what is answered, if anything is
+abbrev pub Answered : {A : Type 0} → (A → Type 0) → Answer A → Type 0
+Answered P (fine value) = P value
+Answered P (wrong kind) = ⊤
+
+pub answered_any : {A : Type 0} (answer : Answer A) → Answered (λ value. ⊤) answer
+answered_any (fine value) = tt
+answered_any (wrong kind) = tt
+
+pub answered_then : {A B : Type 0} (P : A → Type 0) (Q : B → Type 0) (answer : Answer A) (next : A → Answer B)
+    → Answered P answer → ((value : A) → P value → Answered Q (next value)) → Answered Q (then_answer answer next)
+answered_then P Q (fine value) next is later = later value is
+answered_then P Q (wrong kind) next is later = tt
+
+-- the rules
+after : {A B : Type 0} {later last : Kinds} {P : A → Type 0} {Q : B → Type 0} (outcome : Outcome Store A)
+    (next : A → Doing Store B) → Leaves later P outcome → ((value : A) → P value → Keeps later last Q (next value))
+    → Leaves last Q (and_then outcome next)
+after (gives value run) next left keeps = (keeps value left.0).each run left.1
+after (ends end world) next left keeps = tt
+after (errs kind world) next left keeps = tt
+
+pub keeps_bind : {A B : Type 0} {kinds later last : Kinds} {P : A → Type 0} {Q : B → Type 0} {first : Doing Store A}
+    {next : A → Doing Store B} → Keeps kinds later P first → ((value : A) → P value → Keeps later last Q (next value))
+    → Keeps kinds last Q (first >>= next)
+keeps_bind {first = first} {next = next} early late = record {
+  each = λ run stands. after (first run) next (early.each run stands) late;
+}
+
+pub keeps_then : {A B : Type 0} {kinds later last : Kinds} {P : A → Type 0} {Q : B → Type 0} {first : Doing Store A}
+    {next : Doing Store B} → Keeps kinds later P first → Keeps later last Q next → Keeps kinds last Q (first >> next)
+keeps_then {first = first} {next = next} early late = record {
+  each = λ run stands. after (first run) (λ _. next) (early.each run stands) (λ value is. late);
+}
+
+pub keeps_pure : {A : Type 0} {kinds : Kinds} {P : A → Type 0} (value : A) → P value → Keeps kinds kinds P (pure value)
+keeps_pure value is = record { each = λ run stands. (is, stands) }
+
+pub keeps_answered : {A : Type 0} {kinds : Kinds} {P : A → Type 0} (answer : Answer A) → Answered P answer
+    → Keeps kinds kinds P (answered answer)
+keeps_answered (fine value) is = record { each = λ run stands. (is, stands) }
+keeps_answered (wrong kind) is = record { each = λ run stands. tt }
+
+pub keeps_ask : {A : Type 0} {kinds : Kinds} {P : A → Type 0} (question : Store → World → Answer A)
+    → ((store : Store) (world : World) → Stands kinds store → Answered P (question store world))
+    → Keeps kinds kinds P (ask question)
+keeps_ask question is = record {
+  each = λ run stands.
+      (keeps_answered (question run.store run.world) (is run.store run.world stands)).each run stands;
+}
+
+pub keeps_change : {kinds later : Kinds} (next : Store → Store)
+    → ((store : Store) → Stands kinds store → Stands later (next store)) → Keeps kinds later (λ value. ⊤) (change next)
+keeps_change next is = record { each = λ run stands. (tt, is run.store stands) }
+
+pub keeps_changed : {kinds later : Kinds} (next : Store → Answer Store)
+    → ((store : Store) → Stands kinds store → Answered (Stands later) (next store))
+    → Keeps kinds later (λ value. ⊤) (changed next)
+keeps_changed next is =
+    keeps_bind (keeps_ask (λ store world. next store) (λ store world. is store))
+    (λ store stands. keeps_change (λ _. store) (λ _ _. stands))
+
+pub keeps_stop : {A : Type 0} {kinds later : Kinds} {P : A → Type 0} (end : End)
+    → Keeps {A = A} kinds later P (stop end)
+keeps_stop end = record { each = λ run stands. tt }
+
+pub keeps_if : {A : Type 0} {kinds later : Kinds} {P : A → Type 0} {one other : Doing Store A} (test : Bool)
+    → Keeps kinds later P one → Keeps kinds later P other → Keeps kinds later P (if test then one else other)
+keeps_if true one other = one
+keeps_if false one other = other
+
+led_on : {A : Type 0} {kinds : Kinds} (store : Store) (before : World) (step : Worldly A) → Stands kinds store
+    → Leaves kinds (λ value. ⊤) (led store before step)
+led_on store before (passes value now) stands = (tt, stands)
+led_on store before (stops end) stands = tt
+led_on store before (fails kind) stands = tt
+
+pub keeps_worldly : {A : Type 0} {kinds : Kinds} (step : World → Worldly A)
+    → Keeps kinds kinds (λ value. ⊤) (worldly step)
+keeps_worldly step = record { each = λ run stands. led_on run.store run.world (step run.world) stands }
+
+-- an operand by what its check answers, and whatever that is
+pub keeps_checked : {A : Type 0} {kinds : Kinds} {P : Datum → Type 0} {Q : A → Type 0} (check : Datum → Answer A)
+    {evaluated : Doing Store Datum} → Keeps kinds kinds P evaluated
+    → ((datum : Datum) → P datum → Answered Q (check datum)) → Keeps kinds kinds Q (operand check evaluated)
+keeps_checked check evaluated is = keeps_bind evaluated (λ datum held. keeps_answered (check datum) (is datum held))
+
+pub keeps_operand : {A B : Type 0} {kinds last : Kinds} {P : Datum → Type 0} {Q : B → Type 0} (check : Datum → Answer A)
+    {evaluated : Doing Store Datum} {next : A → Doing Store B} → Keeps kinds kinds P evaluated
+    → ((found : A) → Keeps kinds last Q (next found)) → Keeps kinds last Q (operand check evaluated >>= next)
+keeps_operand check evaluated next =
+    keeps_bind (keeps_checked check evaluated (λ datum held. answered_any (check datum))) (λ found is. next found)
+
+pub keeps_on : {kinds : Kinds} (flow : Flow) {rest : Doing Store Flow} → Keeps kinds kinds (λ flow. ⊤) rest
+    → Keeps kinds kinds (λ flow. ⊤) (run.go_on flow rest)
+keeps_on run.next rest = rest
+keeps_on run.leaves rest = keeps_pure _ tt
+keeps_on (run.jump label) rest = keeps_pure _ tt
+
+-- a step of the file that a variable means
+pub keeps_on_file : {kinds : Kinds} (file : Slot) (step : ℕ → Doing Store (Unit {0}))
+    → ((number : ℕ) → Keeps kinds kinds (λ value. ⊤) (step number))
+    → Keeps kinds kinds (λ value. ⊤) (run.on_file file step)
+keeps_on_file file step keeps =
+    keeps_bind (keeps_ask (run.file_of file) (λ store world stands. answered_any (run.file_of file store world)))
+    (λ number is. keeps number)
+
+-- an index is below the number of elements
+both : (one other : Bool) → (one && other) ≡ true → (one ≡ true) × (other ≡ true)
+both true true is = (refl, refl)
+both true false is = absurd (cc)
+both false other is = absurd (cc)
+
+apart : (low high value : ℤ) → low ≤ℤ value → value ≤ℤ high → nat_abs (value -ℤ low) < nat_abs (high -ℤ low) + 1
+apart low high value above below = omega (arith, ints)
+
+below_count : (range : Range) (value : ℤ) → is_within range value ≡ true
+    → nat_abs (value -ℤ range.low) < count_of range
+below_count range value within =
+    let sides = both (int_le range.low value) (int_le value range.high) within in
+    apart range.low range.high value (le_z_yes (T_from_true _ sides.0)) (le_z_yes (T_from_true _ sides.1))
+
+within_range : (kind : ℕ) (range : Range) (value : ℤ) (within : Bool) → is_within range value ≡ within
+    → Answered (λ found. is_within range found ≡ true) (if within then fine value else wrong kind)
+within_range kind range value true is = is
+within_range kind range value false is = tt
+
+pub element_below : (range : Range) (datum : Datum) → Answered (λ number. number < count_of range) (element range datum)
+element_below range datum =
+    answered_then (λ value. is_within range value ≡ true) _ (number_within INDEX_OUT_OF_RANGE range datum) _
+    (answered_then (λ value. ⊤) _ (number_of datum) _ (answered_any (number_of datum))
+    (λ value is. within_range INDEX_OUT_OF_RANGE range value (is_within range value) refl)) (below_count range)
