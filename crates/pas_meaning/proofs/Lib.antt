@@ -6,3 +6,4 @@ pub mod TrialLemmas
 pub mod CellLemmas
 pub mod StandingLemmas
 pub mod KeepsLemmas
+pub mod PlaceKeeps
