@@ -18,6 +18,7 @@ use Rattle.pas_meaning.specs.Answers.{Answer, fine, wrong, then_answer}
 use Rattle.pas_meaning.specs.Files as files
 use Rattle.pas_meaning.specs.Outcome.{World, Run, Outcome, gives, ends, errs, Doing, pure, and_then, ◌>>=◌, ◌>>◌, answered}
 use Rattle.pas_meaning.specs.Outcome.{ask, change, changed, Worldly, passes, stops, fails, led, worldly, End, stop}
+use Rattle.pas_meaning.specs.Outcome.{take_step, begin_call, end_call}
 use Rattle.pas_meaning.specs.Store.{Datum, undefined, holds, Cell, own, refers, Reference, Store, cell_at, followed, home_by, home_of}
 use Rattle.pas_meaning.specs.Store.{top_of, along, fetched, stored, number_in, number_of, in_range, number_for, fits_by, fits}
 use Rattle.pas_meaning.specs.Store.{put_at, defined_by, fetched_as}
@@ -110,6 +111,15 @@ led_on store before (fails kind) stands = tt
 pub keeps_worldly : {A : Type 0} {kinds : Kinds} (step : World → Worldly A)
     → Keeps kinds kinds (λ value. ⊤) (worldly step)
 keeps_worldly step = record { each = λ run stands. led_on run.store run.world (step run.world) stands }
+
+pub keeps_step : {kinds : Kinds} → Keeps kinds kinds (λ value. ⊤) (take_step {S = Store})
+keeps_step = keeps_worldly _
+
+pub keeps_begin : {kinds : Kinds} (limit : Option ℕ) → Keeps kinds kinds (λ value. ⊤) (begin_call {S = Store} limit)
+keeps_begin limit = keeps_worldly _
+
+pub keeps_end_call : {kinds : Kinds} → Keeps kinds kinds (λ value. ⊤) (end_call {S = Store})
+keeps_end_call = keeps_worldly {A = Unit {0}} (λ world. passes tt (record world { calls = world.calls - 1 }))
 
 -- an operand by what its check answers, and whatever that is
 pub keeps_checked : {A : Type 0} {kinds : Kinds} {P : Datum → Type 0} {Q : A → Type 0} (check : Datum → Answer A)

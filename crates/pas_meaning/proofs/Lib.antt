@@ -7,3 +7,4 @@ pub mod CellLemmas
 pub mod StandingLemmas
 pub mod KeepsLemmas
 pub mod PlaceKeeps
+pub mod CallKeeps

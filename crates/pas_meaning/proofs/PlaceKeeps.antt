@@ -28,7 +28,7 @@ use Rattle.pas_meaning.proofs.StandingLemmas.{aims_along, fetched_shaped, stands
 use Rattle.pas_meaning.proofs.KeepsLemmas.{Answered, answered_any, answered_then, keeps_bind, keeps_answered, keeps_ask}
 use Rattle.pas_meaning.proofs.KeepsLemmas.{keeps_changed, keeps_on_file, keeps_worldly}
 
-all_get : {A : Type 0} (P : A → Type 0) (xs : List A) (number : ℕ) (x : A) → All P xs → slice_get xs number ≡ Some x → P x
+pub all_get : {A : Type 0} (P : A → Type 0) (xs : List A) (number : ℕ) (x : A) → All P xs → slice_get xs number ≡ Some x → P x
 all_get P xs number x all there =
     subst P (get_or_from_slice_get xs number x x there) (all number x (slice_get_within xs number x there))
 
