@@ -1,15 +1,15 @@
 -- Calls of a lawful program: an activation opens as it is declared, and what ran in it leaves the others as they are.
 use Rattle.std.proofs.Common.{◌≡◌, ℕ, zero, suc, ◌+◌, ◌-◌, ◌<◌, ◌≤◌, ◌==◌, List, [], ◌∷◌, ◌++◌, length, map, drop, find, Option}
 use Rattle.std.proofs.Common.{Some, None, Bool, true, false, slice_get, slice_index_or, arith, refl, sym, ap, ap₂, ◌∙◌, subst, All}
-use Rattle.std.proofs.Common.{option_map, length-append, eqb-true, if◌then◌else◌}
+use Rattle.std.proofs.Common.{option_map, length-append, eqb-true, if◌then◌else◌, IfSome}
 use Rattle.std.specs.Prelude.{⊤, option_to_list}
 use Rattle.std.proofs.lemmas.List.{map-append, drop_at, length-map}
-use Rattle.std.proofs.lemmas.Option.{slice_get-map, same_Some}
+use Rattle.std.proofs.lemmas.Option.{slice_get-map, same_Some, MatchOption-at_some}
 use Rattle.pas_typed.specs.Types.{PasType}
 use Rattle.pas_typed.specs.Typed as typed
 use Rattle.pas_typed.specs.Typed.{Variable, Heading, Body, TypedProgram}
 use Rattle.pas_typed.specs.Shapes.{one_cell}
-use Rattle.pas_typed.specs.Lawful.{AreDeclared, IsLawful, IsLawfulBody}
+use Rattle.pas_typed.specs.Lawful.{IsOrdinal, AreDeclared, IsLawful, IsLawfulBody}
 use Rattle.pas_meaning.specs.Outcome.{World, Doing, pure, ◌>>=◌, ◌>>◌}
 use Rattle.pas_meaning.specs.Answers.{fine}
 use Rattle.pas_meaning.specs.Store.{Datum, undefined, own, refers, Cell, Store, home_of, along, opened, closed}
@@ -20,7 +20,7 @@ use Rattle.pas_meaning.specs.Standing.{KeepsAll, kinds_for, result_kinds}
 use Rattle.pas_meaning.proofs.CellLemmas.{blank_of-shaped}
 use Rattle.pas_meaning.proofs.StandingLemmas.{kind_row, kind_stays, kind_last, aims_along, aims_more, AllMatch, all_append}
 use Rattle.pas_meaning.proofs.StandingLemmas.{stands_opened, stands_closed}
-use Rattle.pas_meaning.proofs.KeepsLemmas.{keeps_bind, keeps_then, keeps_pure, keeps_ask, keeps_change, keeps_step, keeps_begin}
+use Rattle.pas_meaning.proofs.KeepsLemmas.{keeps_bind, keeps_then, keeps_pure, keeps_asked, keeps_change, keeps_step, keeps_begin}
 use Rattle.pas_meaning.proofs.KeepsLemmas.{keeps_end_call}
 use Rattle.pas_meaning.proofs.PlaceKeeps.{all_get, Sound, shape, IsSpot, slot_aims}
 
@@ -56,6 +56,14 @@ get_behind (first ∷ xs) ys (suc number) long = get_behind xs ys number (omega 
 module _ (program : TypedProgram) (lawful : IsLawful program) where
   abbrev pub kind : Variable → Kind
   kind variable = kind_of program.types variable
+
+  -- the result of a function is an ordinal
+  pub result_ordinal : (routine : ℕ) (heading : Heading) (type : PasType) → slice_get program.headings routine ≡ Some heading
+      → heading.result ≡ Some type → IsOrdinal program.types type
+  result_ordinal routine heading type there typed_so =
+      MatchOption-at_some ⊤ (IsOrdinal program.types) type typed_so
+      (all_get (λ (found : Heading). IfSome found.result (IsOrdinal program.types)) program.headings routine heading
+      lawful.results there)
 
   -- blank variables and the result match what is declared
   others_match : (kinds : Kinds) (activation : ℕ) (others : List Variable) → AreDeclared others
@@ -170,6 +178,7 @@ module _ (program : TypedProgram) (lawful : IsLawful program) where
             ∙ get_behind (map kind body.variables) _ (length body.variables) (length-map body.variables kind)
             ∙ ap (λ heading. slice_get (result_kinds heading) 0) is.there
             ∙ ap (λ result. slice_get (map (λ type. plain one_cell) (option_to_list result)) 0) typed_so;
+        ordinal = λ type typed_so. result_ordinal body.routine is.heading type is.there typed_so;
       }
 
       stands_inside : (arguments : List Argument) (store : Store) → AreFor is.heading.parameters arguments
@@ -190,8 +199,7 @@ module _ (program : TypedProgram) (lawful : IsLawful program) where
           (λ store. stands_inside body is arguments store are))
           (keeps_bind (keeps_below body.variables is.heading.result (inside body is) (knows_inside body is) run.start
           (typed.compound body.statements) is.statements) (λ flow is_flow.
-          keeps_bind (keeps_ask {P = λ value. ⊤}
-          (λ store world. fine (run.result_of (length body.variables) store)) (λ store world stands. tt))
+          keeps_bind (keeps_asked (λ store world. fine (run.result_of (length body.variables) store)))
           (λ found is_found. keeps_then (keeps_change closed
           (λ store stands. stands_closed kinds (kinds_for program body) store stands))
           (keeps_then keeps_end_call (keeps_pure found tt)))))

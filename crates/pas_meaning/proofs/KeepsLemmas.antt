@@ -82,6 +82,18 @@ keeps_ask question is = record {
       (keeps_answered (question run.store run.world) (is run.store run.world stands)).each run stands;
 }
 
+pub keeps_any : {A : Type 0} {kinds : Kinds} (answer : Answer A) → Keeps kinds kinds (λ value. ⊤) (answered answer)
+keeps_any answer = keeps_answered answer (answered_any answer)
+
+pub keeps_asked : {A : Type 0} {kinds : Kinds} (question : Store → World → Answer A)
+    → Keeps kinds kinds (λ value. ⊤) (ask question)
+keeps_asked question = keeps_ask question (λ store world stands. answered_any (question store world))
+
+-- a number that is answered
+pub keeps_number : {kinds : Kinds} (answer : Answer ℤ)
+    → Keeps kinds kinds (IsShaped one_cell) (answered answer >>= (λ found. pure (holds found)))
+keeps_number answer = keeps_bind (keeps_any answer) (λ found is. keeps_pure (holds found) tt)
+
 pub keeps_change : {kinds later : Kinds} (next : Store → Store)
     → ((store : Store) → Stands kinds store → Stands later (next store)) → Keeps kinds later (λ value. ⊤) (change next)
 keeps_change next is = record { each = λ run stands. (tt, is run.store stands) }
@@ -144,8 +156,7 @@ pub keeps_on_file : {kinds : Kinds} (file : Slot) (step : ℕ → Doing Store (U
     → ((number : ℕ) → Keeps kinds kinds (λ value. ⊤) (step number))
     → Keeps kinds kinds (λ value. ⊤) (run.on_file file step)
 keeps_on_file file step keeps =
-    keeps_bind (keeps_ask (run.file_of file) (λ store world stands. answered_any (run.file_of file store world)))
-    (λ number is. keeps number)
+    keeps_bind (keeps_asked (run.file_of file)) (λ number is. keeps number)
 
 -- an index is below the number of elements
 both : (one other : Bool) → (one && other) ≡ true → (one ≡ true) × (other ≡ true)

@@ -8,3 +8,4 @@ pub mod StandingLemmas
 pub mod KeepsLemmas
 pub mod PlaceKeeps
 pub mod CallKeeps
+pub mod ValueKeeps

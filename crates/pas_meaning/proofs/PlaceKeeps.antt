@@ -4,7 +4,7 @@ use Rattle.std.proofs.Common.{false, IsSome, is_some, ℤ, pos, nat_abs, slice_g
 use Rattle.std.proofs.Common.{inl, inr, ◌⊎◌, All, option_map}
 use Rattle.std.specs.Prelude.{⊤}
 use Rattle.std.proofs.lemmas.Option.{slice_get_within, same_Some, get_or_from_slice_get, option_and_then_some}
-use Rattle.pas_typed.specs.Types.{whole, integer, Range, Field, PasType, Table, range_of, elements_of, fields_of, ArrayParts, count_of}
+use Rattle.pas_typed.specs.Types.{Range, Field, PasType, Table, range_of, elements_of, fields_of, ArrayParts, count_of}
 use Rattle.pas_typed.specs.Typed as typed
 use Rattle.pas_typed.specs.Typed.{Mode, Home, Slot, Variable, TypedProgram}
 use Rattle.pas_typed.specs.Shapes.{Shape, one_cell, Leads, shape_of}
@@ -25,7 +25,7 @@ use Rattle.pas_meaning.specs.Cells.{IsShaped}
 use Rattle.pas_meaning.specs.Standing.{Kind, plain, named, kind_by, kind_of, Kinds, kind_at, Aims, Matches, Stands, Keeps}
 use Rattle.pas_meaning.specs.Standing.{Knows}
 use Rattle.pas_meaning.proofs.StandingLemmas.{aims_along, fetched_shaped, stands_stored}
-use Rattle.pas_meaning.proofs.KeepsLemmas.{Answered, answered_any, answered_then, keeps_bind, keeps_answered, keeps_ask}
+use Rattle.pas_meaning.proofs.KeepsLemmas.{Answered, answered_any, answered_then, keeps_bind, keeps_any, keeps_ask}
 use Rattle.pas_meaning.proofs.KeepsLemmas.{keeps_changed, keeps_on_file, keeps_worldly}
 
 pub all_get : {A : Type 0} (P : A → Type 0) (xs : List A) (number : ℕ) (x : A) → All P xs → slice_get xs number ≡ Some x → P x
@@ -48,11 +48,20 @@ module _ (program : TypedProgram) (lawful : IsLawful program) where
   ordinal_by : (type : PasType) (range : Range) → range_of program.types type ≡ Some range → IsOrdinal program.types type
   ordinal_by type range is = ap is_some is
 
-  fits_sound_by : (type source : PasType) (datum : Datum) (range : Option Range) → range_of program.types type ≡ range
-      → Takes program.types type source → Sound source datum → Answered (Sound type) (fits_by range datum)
-  fits_sound_by type source datum None is (inl ordinal) sound = absurd (cc)
-  fits_sound_by type source datum None is (inr same) sound = subst (λ type. Sound type datum) (sym same) sound
-  fits_sound_by type source datum (Some range) is takes sound = of_number (number_in datum)
+  -- a datum that a target of a type may take
+  abbrev pub MayTake : PasType → Datum → Type 0
+  MayTake type datum = IsOrdinal program.types type ⊎ Sound type datum
+
+  pub may_take : (type source : PasType) (datum : Datum) → Takes program.types type source → Sound source datum
+      → MayTake type datum
+  may_take type source datum (inl ordinal) sound = inl ordinal
+  may_take type source datum (inr same) sound = inr (subst (λ type. Sound type datum) (sym same) sound)
+
+  fits_sound_by : (type : PasType) (datum : Datum) (range : Option Range) → range_of program.types type ≡ range
+      → MayTake type datum → Answered (Sound type) (fits_by range datum)
+  fits_sound_by type datum None is (inl ordinal) = absurd (cc)
+  fits_sound_by type datum None is (inr sound) = sound
+  fits_sound_by type datum (Some range) is may = of_number (number_in datum)
     where
       of_number : (found : Option ℤ) → Answered (Sound type) (number_for range found)
       of_number None = tt
@@ -61,10 +70,9 @@ module _ (program : TypedProgram) (lawful : IsLawful program) where
           (λ checked is_checked. ordinal_holds type checked (ordinal_by type range is))
 
   -- what fits a type is of its shape
-  pub fits_sound : (type source : PasType) (datum : Datum) → Takes program.types type source → Sound source datum
+  pub fits_sound : (type : PasType) (datum : Datum) → MayTake type datum
       → Answered (Sound type) (fits program.types type datum)
-  fits_sound type source datum takes sound =
-      fits_sound_by type source datum (range_of program.types type) refl takes sound
+  fits_sound type datum may = fits_sound_by type datum (range_of program.types type) refl may
 
   defined_sound : (type : PasType) (datum : Datum) (range : Option Range) → range_of program.types type ≡ range
       → Sound type datum → Answered (Sound type) (defined_by range datum)
@@ -162,7 +170,7 @@ module _ (program : TypedProgram) (lawful : IsLawful program) where
         subst (λ component. Answered (Sound type) (run.read_at program.types type (run.window slot component) store world))
         (sym is.0)
         (answered_then (λ byte. ⊤) (Sound type) (run.of_file slot files.buffer_read store world) _ (answered_any _)
-        (λ byte is_byte. fits_sound type (whole integer) (holds (pos byte)) (inl is.1) tt))
+        (λ byte is_byte. fits_sound type (holds (pos byte)) (inl is.1)))
 
     pub keeps_read : (type : PasType) (spot : Spot) → IsSpot type spot
         → Keeps kinds kinds (Sound type) (ask (run.read_at program.types type spot))
@@ -171,17 +179,15 @@ module _ (program : TypedProgram) (lawful : IsLawful program) where
         (λ store world stands. read_sound type spot store world stands is)
 
     -- and what is stored there
-    pub keeps_store : (type source : PasType) (spot : Spot) (datum : Datum) → IsSpot type spot
-        → Takes program.types type source → Sound source datum
+    pub keeps_store : (type : PasType) (spot : Spot) (datum : Datum) → IsSpot type spot → MayTake type datum
         → Keeps kinds kinds (λ value. ⊤) (run.store_at program.types type spot datum)
-    keeps_store type source (run.part slot path) datum is takes sound =
+    keeps_store type (run.part slot path) datum is may =
         keeps_changed (λ store. put_at program.types type (along (home_of slot store) path) datum store)
         (λ store stands. answered_then (Sound type) (Stands kinds) (fits program.types type datum) _
-        (fits_sound type source datum takes sound)
+        (fits_sound type datum may)
         (λ checked shaped. stands_stored kinds store (along (home_of slot store) path) (shape type) checked stands
         (aims_along kinds (home_of slot store) (shape slot.type) (shape type) path
         (slot_aims slot store stands is.0) is.1) shaped))
-    keeps_store type source (run.window slot of_component) datum is takes sound =
-        keeps_bind (keeps_answered {P = λ byte. ⊤}
-        (then_answer (fits program.types of_component datum) (byte_of OUT_OF_RANGE)) (answered_any _))
+    keeps_store type (run.window slot of_component) datum is may =
+        keeps_bind (keeps_any (then_answer (fits program.types of_component datum) (byte_of OUT_OF_RANGE)))
         (λ byte is_byte. keeps_on_file slot _ (λ number. keeps_worldly _))

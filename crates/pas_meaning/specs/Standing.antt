@@ -6,7 +6,7 @@ use Rattle.pas_typed.specs.Types.{PasType, Table}
 use Rattle.pas_typed.specs.Typed as typed
 use Rattle.pas_typed.specs.Typed.{Mode, Variable, Statement, Heading, Body, TypedProgram}
 use Rattle.pas_typed.specs.Shapes.{Shape, one_cell, Leads, shape_of}
-use Rattle.pas_typed.specs.Lawful.{IsLawfulStatement}
+use Rattle.pas_typed.specs.Lawful.{IsOrdinal, IsLawfulStatement}
 use Rattle.pas_meaning.specs.Outcome.{Run, Outcome, gives, ends, errs, Doing}
 use Rattle.pas_meaning.specs.Store.{Cell, own, refers, Reference, Store, cell_at}
 use Rattle.pas_meaning.specs.Run.{Entry, Doings}
@@ -79,6 +79,7 @@ pub record Knows (program : TypedProgram) (variables : List Variable) (result : 
       → kind_at kinds (length kinds - 1) number ≡ Some (kind_of program.types variable)
   pub result_cell : (type : PasType) → result ≡ Some type
       → kind_at kinds (length kinds - 1) (length variables) ≡ Some (plain one_cell)
+  pub ordinal : (type : PasType) → result ≡ Some type → IsOrdinal program.types type
 
 -- each lawful statement keeps the variables, wherever it is entered
 abbrev pub KeepsAll : TypedProgram → Doings → Type 0
