@@ -25,7 +25,7 @@ use Rattle.pas_meaning.specs.Store.{put_at, defined_by, fetched_as}
 use Rattle.pas_meaning.specs.Operands.{operand, element, byte_of, number_within}
 use Rattle.pas_meaning.specs.Run as run
 use Rattle.pas_meaning.specs.Run.{Flow, Spot, slot_of, path_of}
-use Rattle.pas_meaning.specs.FileSteps.{change_file}
+use Rattle.pas_meaning.specs.FileSteps.{file_at, left, reset, rewrite, emptied_file}
 use Rattle.pas_meaning.specs.Cells.{IsShaped}
 use Rattle.pas_meaning.specs.Standing.{Kind, plain, named, kind_by, kind_of, Kinds, kind_at, Aims, Matches, Stands, Leaves}
 use Rattle.pas_meaning.specs.Standing.{Keeps, Knows}
@@ -133,6 +133,12 @@ keeps_begin limit = keeps_worldly _
 pub keeps_end_call : {kinds : Kinds} → Keeps kinds kinds (λ value. ⊤) (end_call {S = Store})
 keeps_end_call = keeps_worldly {A = Unit {0}} (λ world. passes tt (record world { calls = world.calls - 1 }))
 
+pub keeps_reset : {kinds : Kinds} (file : ℕ) → Keeps kinds kinds (λ value. ⊤) (reset {S = Store} file)
+keeps_reset file = keeps_worldly (λ world. left file world (fine (files.reset (file_at file world))))
+
+pub keeps_rewrite : {kinds : Kinds} (file : ℕ) → Keeps kinds kinds (λ value. ⊤) (rewrite {S = Store} file)
+keeps_rewrite file = keeps_worldly (λ world. passes tt (emptied_file file world))
+
 -- an operand by what its check answers, and whatever that is
 pub keeps_checked : {A : Type 0} {kinds : Kinds} {P : Datum → Type 0} {Q : A → Type 0} (check : Datum → Answer A)
     {evaluated : Doing Store Datum} → Keeps kinds kinds P evaluated
@@ -144,6 +150,11 @@ pub keeps_operand : {A B : Type 0} {kinds last : Kinds} {P : Datum → Type 0} {
     → ((found : A) → Keeps kinds last Q (next found)) → Keeps kinds last Q (operand check evaluated >>= next)
 keeps_operand check evaluated next =
     keeps_bind (keeps_checked check evaluated (λ datum held. answered_any (check datum))) (λ found is. next found)
+
+pub keeps_operand_alone : {A : Type 0} {kinds : Kinds} {P : Datum → Type 0} (check : Datum → Answer A)
+    {evaluated : Doing Store Datum} → Keeps kinds kinds P evaluated
+    → Keeps kinds kinds (λ found. ⊤) (operand check evaluated)
+keeps_operand_alone check evaluated = keeps_checked check evaluated (λ datum held. answered_any (check datum))
 
 pub keeps_on : {kinds : Kinds} (flow : Flow) {rest : Doing Store Flow} → Keeps kinds kinds (λ flow. ⊤) rest
     → Keeps kinds kinds (λ flow. ⊤) (run.go_on flow rest)

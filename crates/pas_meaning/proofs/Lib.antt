@@ -9,3 +9,4 @@ pub mod KeepsLemmas
 pub mod PlaceKeeps
 pub mod CallKeeps
 pub mod ValueKeeps
+pub mod RunKeeps

@@ -178,7 +178,13 @@ module _ (program : TypedProgram) (lawful : IsLawful program) where
         keeps_ask (run.read_at program.types type spot)
         (λ store world stands. read_sound type spot store world stands is)
 
-    -- and what is stored there
+    -- and what is stored there: in a buffer, whatever it is
+    pub keeps_window : (type of_component : PasType) (file : Slot) (datum : Datum)
+        → Keeps kinds kinds (λ value. ⊤) (run.store_at program.types type (run.window file of_component) datum)
+    keeps_window type of_component file datum =
+        keeps_bind (keeps_any (then_answer (fits program.types of_component datum) (byte_of OUT_OF_RANGE)))
+        (λ byte is_byte. keeps_on_file file _ (λ number. keeps_worldly _))
+
     pub keeps_store : (type : PasType) (spot : Spot) (datum : Datum) → IsSpot type spot → MayTake type datum
         → Keeps kinds kinds (λ value. ⊤) (run.store_at program.types type spot datum)
     keeps_store type (run.part slot path) datum is may =
@@ -189,5 +195,4 @@ module _ (program : TypedProgram) (lawful : IsLawful program) where
         (aims_along kinds (home_of slot store) (shape slot.type) (shape type) path
         (slot_aims slot store stands is.0) is.1) shaped))
     keeps_store type (run.window slot of_component) datum is may =
-        keeps_bind (keeps_any (then_answer (fits program.types of_component datum) (byte_of OUT_OF_RANGE)))
-        (λ byte is_byte. keeps_on_file slot _ (λ number. keeps_worldly _))
+        keeps_window type of_component slot datum

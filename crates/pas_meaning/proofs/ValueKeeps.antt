@@ -46,7 +46,7 @@ module _ (program : TypedProgram) (lawful : IsLawful program) (limit : Option �
   defined_sound type (parts found) is = tt
 
   -- a place by its spot, which is a window where the place is a buffer
-  abbrev IsSpotOf : Place → Spot → Type 0
+  abbrev pub IsSpotOf : Place → Spot → Type 0
   IsSpotOf place spot =
       IsSpot program lawful variables result kinds knows (type_of_place place) spot × (is_window spot ≡ is_buffer place)
 
