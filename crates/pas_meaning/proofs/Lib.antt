@@ -10,3 +10,4 @@ pub mod PlaceKeeps
 pub mod CallKeeps
 pub mod ValueKeeps
 pub mod RunKeeps
+pub mod StartKeeps

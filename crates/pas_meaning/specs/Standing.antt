@@ -37,6 +37,9 @@ kinds_for program body =
 abbrev pub Kinds : Type 0
 Kinds = List (List Kind)
 
+abbrev pub kinds_at_start : TypedProgram → Kinds
+kinds_at_start program = map (kind_of program.types) program.globals ∷ []
+
 abbrev pub kind_at : Kinds → ℕ → ℕ → Option Kind
 kind_at kinds activation variable = slice_get (slice_index_or kinds activation []) variable
 
