@@ -1,6 +1,6 @@
 -- Calls of a lawful program: an activation opens as it is declared, and what ran in it leaves the others as they are.
-use Rattle.std.proofs.Common.{◌≡◌, ℕ, zero, suc, ◌+◌, ◌-◌, ◌<◌, ◌≤◌, ◌==◌, List, [], ◌∷◌, ◌++◌, length, map, drop, find, Option}
-use Rattle.std.proofs.Common.{Some, None, Bool, true, false, slice_get, slice_index_or, arith, refl, sym, ap, ap₂, ◌∙◌, subst, All}
+use Rattle.std.proofs.Common.{◌≡◌, ℕ, zero, suc, ◌-◌, ◌==◌, List, [], ◌∷◌, ◌++◌, length, map, drop, find, Option}
+use Rattle.std.proofs.Common.{Some, None, Bool, true, false, slice_get, arith, refl, sym, ap, ◌∙◌, subst, All}
 use Rattle.std.proofs.Common.{option_map, length-append, eqb-true, if◌then◌else◌, IfSome}
 use Rattle.std.specs.Prelude.{⊤, option_to_list}
 use Rattle.std.proofs.lemmas.List.{map-append, drop_at, length-map}
@@ -8,25 +8,22 @@ use Rattle.std.proofs.lemmas.Option.{slice_get-map, same_Some, MatchOption-at_so
 use Rattle.pas_typed.specs.Types.{PasType}
 use Rattle.pas_typed.specs.Typed as typed
 use Rattle.pas_typed.specs.Typed.{Variable, Heading, Body, TypedProgram}
-use Rattle.pas_typed.specs.Shapes.{one_cell}
+use Rattle.pas_typed.specs.Shapes.{one_cell, shape_of}
 use Rattle.pas_typed.specs.Lawful.{IsOrdinal, AreDeclared, IsLawful, IsLawfulBody}
-use Rattle.pas_meaning.specs.Outcome.{World, Doing, pure, ◌>>=◌, ◌>>◌}
 use Rattle.pas_meaning.specs.Answers.{fine}
-use Rattle.pas_meaning.specs.Store.{Datum, undefined, own, refers, Cell, Store, home_of, along, opened, closed}
+use Rattle.pas_meaning.specs.Store.{undefined, own, Store, home_of, along, opened, closed}
 use Rattle.pas_meaning.specs.Run as run
 use Rattle.pas_meaning.specs.Run.{Doings, Spot, Argument, cell_of, blank_cell, cells_for, result_cells, body_of}
-use Rattle.pas_meaning.specs.Standing.{Kind, plain, kind_by, kind_of, Kinds, kind_at, Aims, Matches, Stands, Keeps, Knows}
-use Rattle.pas_meaning.specs.Standing.{KeepsAll, kinds_for, result_kinds}
+use Rattle.pas_meaning.specs.Standing.{Kind, plain, kind_by, kind_of, Kinds, kind_at, Matches, Stands, Keeps, Knows}
+use Rattle.pas_meaning.specs.Standing.{KeepsAll, kinds_for, result_kinds, IsSpot, is_window, AreFor}
 use Rattle.pas_meaning.proofs.CellLemmas.{blank_of-shaped}
-use Rattle.pas_meaning.proofs.StandingLemmas.{kind_row, kind_stays, kind_last, aims_along, aims_more, AllMatch, all_append}
+use Rattle.pas_meaning.proofs.StandingLemmas.{kind_row, kind_stays, kind_last, aims_along, aims_more, AllMatch}
+use Rattle.pas_meaning.proofs.StandingLemmas.{all_append}
 use Rattle.pas_meaning.proofs.StandingLemmas.{stands_opened, stands_closed}
-use Rattle.pas_meaning.proofs.KeepsLemmas.{keeps_bind, keeps_then, keeps_pure, keeps_asked, keeps_change, keeps_step, keeps_begin}
+use Rattle.pas_meaning.proofs.KeepsLemmas.{keeps_bind, keeps_then, keeps_pure, keeps_asked, keeps_change, keeps_step}
+use Rattle.pas_meaning.proofs.KeepsLemmas.{keeps_begin}
 use Rattle.pas_meaning.proofs.KeepsLemmas.{keeps_end_call}
-use Rattle.pas_meaning.proofs.PlaceKeeps.{all_get, Sound, shape, IsSpot, slot_aims}
-
-abbrev pub is_window : Spot → Bool
-is_window (run.part slot path) = false
-is_window (run.window slot type) = true
+use Rattle.pas_meaning.proofs.PlaceKeeps.{all_get, slot_aims}
 
 found_there : {A : Type 0} (P : A → Type 0) (test : A → Bool) (xs : List A) (x : A) → All P xs → find test xs ≡ Some x
     → P x × (test x ≡ true)
@@ -58,7 +55,8 @@ module _ (program : TypedProgram) (lawful : IsLawful program) where
   kind variable = kind_of program.types variable
 
   -- the result of a function is an ordinal
-  pub result_ordinal : (routine : ℕ) (heading : Heading) (type : PasType) → slice_get program.headings routine ≡ Some heading
+  pub result_ordinal : (routine : ℕ) (heading : Heading) (type : PasType)
+      → slice_get program.headings routine ≡ Some heading
       → heading.result ≡ Some type → IsOrdinal program.types type
   result_ordinal routine heading type there typed_so =
       MatchOption-at_some ⊤ (IsOrdinal program.types) type typed_so
@@ -69,11 +67,12 @@ module _ (program : TypedProgram) (lawful : IsLawful program) where
   others_match : (kinds : Kinds) (activation : ℕ) (others : List Variable) → AreDeclared others
       → AllMatch kinds activation (map kind others) (map (blank_cell program.types) others)
   others_match kinds activation [] declared = tt
-  others_match kinds activation (variable ∷ others) declared =
-      (subst (λ mode. Matches kinds activation (kind_by mode (shape program lawful variable.type))
-      (blank_cell program.types variable)) (sym (declared 0 variable (omega arith)))
-      (blank_of-shaped program.types variable.type),
-      others_match kinds activation others (λ k d less. declared (suc k) d (omega (arith, less))))
+  others_match kinds activation (variable ∷ others) declared = (
+    subst (λ mode. Matches kinds activation (kind_by mode (shape_of program.types variable.type))
+        (blank_cell program.types variable)) (sym (declared 0 variable (omega arith)))
+        (blank_of-shaped program.types variable.type),
+    others_match kinds activation others (λ k d less. declared (suc k) d (omega (arith, less))),
+  )
 
   result_matches : (kinds : Kinds) (activation : ℕ) (heading : Option Heading)
       → AllMatch kinds activation (result_kinds heading) (result_cells heading)
@@ -88,21 +87,7 @@ module _ (program : TypedProgram) (lawful : IsLawful program) where
 
   module _ (variables : List Variable) (result : Option PasType) (kinds : Kinds)
       (knows : Knows program variables result kinds) where
-    abbrev pub IsSpotHere : PasType → Spot → Type 0
-    IsSpotHere type spot = IsSpot program lawful variables result kinds knows type spot
-
-    -- arguments for parameters
-    abbrev pub AreFor : List Variable → List Argument → Type 0
-    AreFor [] [] = ⊤
-    AreFor [] (argument ∷ arguments) = ⊥
-    AreFor (parameter ∷ parameters) [] = ⊥
-    AreFor (parameter ∷ parameters) (run.copied datum ∷ arguments) =
-        (parameter.mode ≡ typed.by_value) × Sound program lawful parameter.type datum × AreFor parameters arguments
-    AreFor (parameter ∷ parameters) (run.meant spot ∷ arguments) =
-        (parameter.mode ≡ typed.by_name) × IsSpotHere parameter.type spot × (is_window spot ≡ false)
-        × AreFor parameters arguments
-
-    as_many : (parameters : List Variable) (arguments : List Argument) → AreFor parameters arguments
+    as_many : (parameters : List Variable) (arguments : List Argument) → AreFor program variables parameters arguments
         → length parameters ≡ length arguments
     as_many [] [] are = refl
     as_many [] (argument ∷ arguments) are = absurd are
@@ -114,31 +99,37 @@ module _ (program : TypedProgram) (lawful : IsLawful program) where
       abbrev more : Kinds
       more = kinds ++ row ∷ []
 
-      meant_matches : (type : PasType) (spot : Spot) → IsSpotHere type spot → is_window spot ≡ false
-          → Matches more (length kinds) (kind_by typed.by_name (shape program lawful type))
+      meant_matches : (type : PasType) (spot : Spot) → IsSpot program variables type spot → is_window spot ≡ false
+          → Matches more (length kinds) (kind_by typed.by_name (shape_of program.types type))
           (cell_of store (run.meant spot))
       meant_matches type (run.part slot path) is no_window =
-          let aims = aims_along kinds (home_of slot store) (shape program lawful slot.type) (shape program lawful type)
-              path (slot_aims program lawful variables result kinds knows slot store stands is.0) is.1 in
-          (aims_more kinds (row ∷ []) (along (home_of slot store) path) (shape program lawful type) aims,
-          kind_row kinds _ _ _ aims.there)
+          let aims = aims_along kinds (home_of slot store) (shape_of program.types slot.type)
+              (shape_of program.types type)
+          path (slot_aims program lawful variables result kinds knows slot store stands is.0) is.1 in (
+            aims_more kinds (row ∷ []) (along (home_of slot store) path) (shape_of program.types type) aims,
+            kind_row kinds _ _ _ aims.there,
+          )
       meant_matches type (run.window slot of_component) is no_window = absurd (cc)
 
-      arguments_match : (parameters : List Variable) (arguments : List Argument) → AreFor parameters arguments
+      arguments_match : (parameters : List Variable) (arguments : List Argument)
+          → AreFor program variables parameters arguments
           → AllMatch more (length kinds) (map kind parameters) (map (cell_of store) arguments)
       arguments_match [] [] are = tt
       arguments_match [] (argument ∷ arguments) are = absurd are
       arguments_match (parameter ∷ parameters) [] are = absurd are
-      arguments_match (parameter ∷ parameters) (run.copied datum ∷ arguments) are =
-          (subst (λ mode. Matches more (length kinds) (kind_by mode (shape program lawful parameter.type)) (own datum))
-          (sym are.0) are.1, arguments_match parameters arguments are.2)
-      arguments_match (parameter ∷ parameters) (run.meant spot ∷ arguments) are =
-          (subst (λ mode. Matches more (length kinds) (kind_by mode (shape program lawful parameter.type))
-          (cell_of store (run.meant spot))) (sym are.0) (meant_matches parameter.type spot are.1 are.2),
-          arguments_match parameters arguments are.3)
+      arguments_match (parameter ∷ parameters) (run.copied datum ∷ arguments) are = (
+        subst (λ mode. Matches more (length kinds) (kind_by mode (shape_of program.types parameter.type)) (own datum))
+            (sym are.0) are.1,
+        arguments_match parameters arguments are.2,
+      )
+      arguments_match (parameter ∷ parameters) (run.meant spot ∷ arguments) are = (
+        subst (λ mode. Matches more (length kinds) (kind_by mode (shape_of program.types parameter.type))
+            (cell_of store (run.meant spot))) (sym are.0) (meant_matches parameter.type spot are.1 are.2),
+        arguments_match parameters arguments are.3,
+      )
 
       variables_match : (parameters others all : List Variable) (arguments : List Argument)
-          → all ≡ parameters ++ others → AreDeclared others → AreFor parameters arguments
+          → all ≡ parameters ++ others → AreDeclared others → AreFor program variables parameters arguments
           → AllMatch more (length kinds) (map kind all)
           (map (cell_of store) arguments ++ map (blank_cell program.types) (drop (length arguments) all))
       variables_match parameters others all arguments are declared for_them =
@@ -181,7 +172,8 @@ module _ (program : TypedProgram) (lawful : IsLawful program) where
         ordinal = λ type typed_so. result_ordinal body.routine is.heading type is.there typed_so;
       }
 
-      stands_inside : (arguments : List Argument) (store : Store) → AreFor is.heading.parameters arguments
+      stands_inside : (arguments : List Argument) (store : Store)
+          → AreFor program variables is.heading.parameters arguments
           → Stands kinds store → Stands inside (opened (cells_for program body arguments store) store)
       stands_inside arguments store are stands =
           stands_opened kinds (kinds_for program body) store (cells_for program body arguments store) stands
@@ -192,7 +184,7 @@ module _ (program : TypedProgram) (lawful : IsLawful program) where
 
     module _ (limit : Option ℕ) (below : Doings) (keeps_below : KeepsAll program below) where
       keeps_body : (body : Body) (arguments : List Argument) (is : IsLawfulBody program body)
-          → AreFor is.heading.parameters arguments
+          → AreFor program variables is.heading.parameters arguments
           → Keeps kinds kinds (λ value. ⊤) (run.body_run limit program below (Some body) arguments)
       keeps_body body arguments is are =
           keeps_then (keeps_change (λ store. opened (cells_for program body arguments store) store)
@@ -206,19 +198,19 @@ module _ (program : TypedProgram) (lawful : IsLawful program) where
 
       found_body : (routine : ℕ) (heading : Heading) (arguments : List Argument) (body : Option Body)
           → body_of program routine ≡ body → slice_get program.headings routine ≡ Some heading
-          → AreFor heading.parameters arguments
+          → AreFor program variables heading.parameters arguments
           → Keeps kinds kinds (λ value. ⊤) (run.body_run limit program below body arguments)
       found_body routine heading arguments None is there are = keeps_pure undefined tt
       found_body routine heading arguments (Some body) is there are =
           let found = found_there (IsLawfulBody program) (λ (body : Body). body.routine == routine) program.bodies body
-              lawful.bodies is in
+          lawful.bodies is in
           let same : heading ≡ found.0.heading = same_Some _ _ (sym there
-              ∙ ap (slice_get program.headings) (sym (eqb-true body.routine routine found.1)) ∙ found.0.there) in
+          ∙ ap (slice_get program.headings) (sym (eqb-true body.routine routine found.1)) ∙ found.0.there) in
           keeps_body body arguments found.0
-          (subst (λ (heading : Heading). AreFor heading.parameters arguments) same are)
+          (subst (λ (heading : Heading). AreFor program variables heading.parameters arguments) same are)
 
       pub keeps_call : (routine : ℕ) (heading : Heading) (arguments : List Argument)
-          → slice_get program.headings routine ≡ Some heading → AreFor heading.parameters arguments
+          → slice_get program.headings routine ≡ Some heading → AreFor program variables heading.parameters arguments
           → Keeps kinds kinds (λ value. ⊤) (run.call limit program below routine arguments)
       keeps_call routine heading arguments there are =
           keeps_then keeps_step (keeps_then (keeps_begin limit)

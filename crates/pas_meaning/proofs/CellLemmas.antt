@@ -1,19 +1,22 @@
 -- The flat cells of data: parts of a datum are slices of its cells, and cells determine the datum of a shape.
-use Rattle.std.proofs.Common.{◌≡◌, ℕ, zero, suc, ◌+◌, ◌<◌, ◌≤◌, List, [], ◌∷◌, ◌++◌, length, map, take, drop, replicate, ℤ}
-use Rattle.std.proofs.Common.{Option, Some, None, arith, refl, sym, ap, ap₂, ◌∙◌, subst, append_assoc, append-nil, length-append}
-use Rattle.std.proofs.Common.{slice_index_or}
+use Rattle.std.proofs.Common.{◌≡◌, ℕ, zero, suc, ◌+◌, ◌<◌, ◌≤◌, List, [], ◌∷◌, ◌++◌, length, map, take, drop, replicate}
+use Rattle.std.proofs.Common.{ℤ}
+use Rattle.std.proofs.Common.{Option, None, arith, refl, sym, ap, ap₂, ◌∙◌, subst, append_assoc, append-nil}
+use Rattle.std.proofs.Common.{length-append}
+use Rattle.std.proofs.Common.{slice_index_or, slice_set}
 use Rattle.std.proofs.Math.ListN.{get_or-map}
-use Rattle.std.proofs.lemmas.List.{take_at, drop_at, map-append, replicate-append-replicate}
+use Rattle.std.proofs.lemmas.List.{take_at, drop_at, get_or_at, set_at, map-append, replicate-append-replicate}
 use Rattle.pas_typed.specs.Types as types
 use Rattle.pas_typed.specs.Types.{Field, PasType, Structure, TableRow, Table, count_of}
 use Rattle.pas_typed.specs.Shapes as shapes
-use Rattle.pas_typed.specs.Shapes.{Shape, one_cell, several, Shapes, no_shape, with_shape, size, total, shapes_in, count}
+use Rattle.pas_typed.specs.Shapes.{Shape, one_cell, several, Shapes, no_shape, with_shape, size, total, shapes_in}
+use Rattle.pas_typed.specs.Shapes.{count}
 use Rattle.pas_typed.specs.Shapes.{shape_at, cells_before, Leads, offset, shape_by, shape_in, shapes_behind, shape_of}
 use Rattle.pas_typed.specs.Shapes.{all_shapes}
 use Rattle.pas_meaning.specs.Store as store
 use Rattle.pas_meaning.specs.Store.{Datum, undefined, holds, parts, Data, no_parts, with_part, first_part, parts_behind}
 use Rattle.pas_meaning.specs.Store.{part_in, set_in, parts_of, part_at, with_part_at, all_parts, blank_by, blank_in}
-use Rattle.pas_meaning.specs.Store.{blanks_behind, blank_of}
+use Rattle.pas_meaning.specs.Store.{blanks_behind, blank_of, number_in}
 use Rattle.pas_meaning.specs.Cells.{IsShaped, AreShaped, flat, flat_parts}
 
 -- a shaped datum has as many cells as its shape
@@ -32,8 +35,12 @@ mutual
   length-flat_parts no_shape (with_part first others) is = absurd is
   length-flat_parts (with_shape shape shapes) no_parts is = absurd is
   length-flat_parts (with_shape shape shapes) (with_part first others) is =
-      omega (arith, length-append (flat first) (flat_parts others), length-flat shape first is.0,
-      length-flat_parts shapes others is.1)
+      omega (
+        arith,
+        length-append (flat first) (flat_parts others),
+        length-flat shape first is.0,
+        length-flat_parts shapes others is.1,
+      )
 
 -- cells determine the datum of a shape
 append_same : {A : Type 0} (first other rest behind : List A) → length first ≡ length other
@@ -70,7 +77,7 @@ mutual
   same_from_flat_parts (with_shape shape shapes) (with_part first behind) no_parts is also same = absurd also
   same_from_flat_parts (with_shape shape shapes) (with_part first behind) (with_part other others) is also same =
       let both = append_same (flat first) (flat other) (flat_parts behind) (flat_parts others)
-          (length-flat shape first is.0 ∙ sym (length-flat shape other also.0)) same in
+      (length-flat shape first is.0 ∙ sym (length-flat shape other also.0)) same in
       ap₂ with_part (same_from_flat shape first other is.0 also.0 both.0)
       (same_from_flat_parts shapes behind others is.1 also.1 both.1)
 
@@ -176,7 +183,7 @@ stands_at (number ∷ path) shape part datum is leads =
     let inner = part_in (parts_of datum) number in
     let on = part_stands (shapes_in shape) (parts_of datum) number found leads.0 in
     let deeper = stands_at path (shape_at (shapes_in shape) number) part inner
-        (part_shaped (shapes_in shape) (parts_of datum) number found leads.0) leads.1 in
+    (part_shaped (shapes_in shape) (parts_of datum) number found leads.0) leads.1 in
     record {
       before = on.before ++ deeper.before;
       behind = deeper.behind ++ on.behind;
@@ -210,8 +217,40 @@ module _ (path : List ℕ) (shape part : Shape) (datum : Datum) (is : IsShaped s
       (sym (ap (take (offset shape path)) on.now ∙ take_at on.before (old ++ on.behind) (offset shape path) on.begins))
       (sym (ap (drop (offset shape path + size part)) (on.now ∙ sym (append_assoc on.before old on.behind))
       ∙ drop_at (on.before ++ old) on.behind (offset shape path + size part)
-      (omega (arith, length-append on.before old, on.begins,
-      length-flat part (part_at path datum) (part_at-shaped path shape part datum is leads)))))
+      (omega (
+        arith,
+        length-append on.before old,
+        on.begins,
+        length-flat part (part_at path datum) (part_at-shaped path shape part datum is leads),
+      ))))
+
+-- a part of one cell is the number at its offset, and one that is put there is set there
+flat-one : (datum : Datum) → IsShaped one_cell datum → flat datum ≡ number_in datum ∷ []
+flat-one undefined is = refl
+flat-one (holds value) is = refl
+flat-one (parts found) is = absurd is
+
+module _ (path : List ℕ) (shape : Shape) (datum : Datum) (is : IsShaped shape datum)
+    (leads : Leads shape path one_cell) where
+  flat_here : StandsAt datum path (offset shape path)
+  flat_here = stands_at path shape one_cell datum is leads
+
+  flat_number : flat datum ≡ flat_here.before ++ (number_in (part_at path datum) ∷ flat_here.behind)
+  flat_number =
+      flat_here.now ∙ ap (λ cells. flat_here.before ++ (cells ++ flat_here.behind))
+      (flat-one (part_at path datum) (part_at-shaped path shape one_cell datum is leads))
+
+  pub number_in_flat : number_in (part_at path datum) ≡ slice_index_or (flat datum) (offset shape path) None
+  number_in_flat =
+      sym (ap (λ cells. slice_index_or cells (offset shape path) None) flat_number
+      ∙ get_or_at flat_here.before _ flat_here.behind None (offset shape path) flat_here.begins)
+
+  pub flat-number_set : (new : Datum) → IsShaped one_cell new
+      → flat (with_part_at path new datum) ≡ slice_set (flat datum) (offset shape path) (number_in new)
+  flat-number_set new one =
+      flat_here.after new ∙ ap (λ cells. flat_here.before ++ (cells ++ flat_here.behind)) (flat-one new one)
+      ∙ sym (ap (λ cells. slice_set cells (offset shape path) (number_in new)) flat_number
+      ∙ set_at flat_here.before _ flat_here.behind (number_in new) (offset shape path) flat_here.begins)
 
 -- a blank of a shape: each cell is undefined
 abbrev mutual
@@ -250,8 +289,15 @@ offset_within path shape part leads =
     let is = blank-shaped shape in
     let on = stands_at path shape part (blank shape) is leads in
     let old = flat (part_at path (blank shape)) in
-    omega (arith, length-flat shape (blank shape) is, ap length on.now, length-append on.before (old ++ on.behind),
-    length-append old on.behind, on.begins, length-flat part _ (part_at-shaped path shape part (blank shape) is leads))
+    omega (
+      arith,
+      length-flat shape (blank shape) is,
+      ap length on.now,
+      length-append on.before (old ++ on.behind),
+      length-append old on.behind,
+      on.begins,
+      length-flat part _ (part_at-shaped path shape part (blank shape) is leads),
+    )
 
 -- a variable of a type begins as the blank of its shape
 blanks-so_many : (count : ℕ) (shape : Shape) → blanks (shapes.so_many count shape) ≡ store.so_many count (blank shape)

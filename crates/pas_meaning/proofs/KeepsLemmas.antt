@@ -1,35 +1,29 @@
 -- What keeps the variables in their shapes: the rules of each way to put steps together, and the steps themselves.
-use Rattle.std.proofs.Common.{◌≡◌, ℕ, zero, suc, ◌+◌, ◌-◌, ◌<◌, ◌≤◌, List, [], ◌∷◌, ◌++◌, length, map, take, drop, Option}
-use Rattle.std.proofs.Common.{Some, None, Bool, true, false, ◌&&◌, if◌then◌else◌, IsSome, ℤ, nat_abs, ◌-ℤ◌, ◌≤ℤ◌, slice_get, arith}
-use Rattle.std.proofs.Common.{refl, sym, ap, ap₂, ◌∙◌, subst, inl, inr, ◌⊎◌, All}
+use Rattle.std.proofs.Common.{◌≡◌, ℕ, ◌+◌, ◌-◌, ◌<◌, Option}
+use Rattle.std.proofs.Common.{Bool, true, false, ◌&&◌, if◌then◌else◌, ℤ, nat_abs, ◌-ℤ◌, ◌≤ℤ◌, arith}
+use Rattle.std.proofs.Common.{refl}
 use Rattle.std.specs.Prelude.{⊤, int_le}
-use Rattle.std.proofs.lemmas.Option.{slice_get_within, same_Some, get_or_from_slice_get}
 use Rattle.std.proofs.lemmas.Int.{ints}
 use Rattle.std.proofs.lemmas.Float.{T_from_true}
 use lib.Signed.{le_z_yes}
-use Rattle.pas_typed.specs.Types.{Range, PasType, Table, range_of, count_of, is_within}
-use Rattle.pas_typed.specs.Typed as typed
-use Rattle.pas_typed.specs.Typed.{Mode, Home, Slot, Variable, TypedProgram}
-use Rattle.pas_typed.specs.Shapes.{Shape, one_cell, Leads, shape_of, IsLawfulTable}
-use Rattle.pas_typed.specs.Lawful.{IsOrdinal, Takes, IsDeclared, AreDeclared, variables_of, IsLawfulSlot, IsLawful}
-use Rattle.pas_typed.proofs.ShapeLemmas.{leads_on, shape_of-ordinal}
-use Rattle.pas_meaning.specs.declared.errors.TheConstants.{OUT_OF_RANGE, INDEX_OUT_OF_RANGE}
+use Rattle.pas_typed.specs.Types.{Range, count_of, is_within}
+use Rattle.pas_typed.specs.Typed.{Slot}
+use Rattle.pas_typed.specs.Shapes.{one_cell}
+use Rattle.pas_meaning.specs.declared.errors.TheConstants.{INDEX_OUT_OF_RANGE}
 use Rattle.pas_meaning.specs.Answers.{Answer, fine, wrong, then_answer}
 use Rattle.pas_meaning.specs.Files as files
-use Rattle.pas_meaning.specs.Outcome.{World, Run, Outcome, gives, ends, errs, Doing, pure, and_then, ◌>>=◌, ◌>>◌, answered}
+use Rattle.pas_meaning.specs.Outcome.{World, Outcome, gives, ends, errs, Doing, pure, and_then, ◌>>=◌, ◌>>◌, answered}
 use Rattle.pas_meaning.specs.Outcome.{ask, change, changed, Worldly, passes, stops, fails, led, worldly, End, stop}
 use Rattle.pas_meaning.specs.Outcome.{take_step, begin_call, end_call}
-use Rattle.pas_meaning.specs.Store.{Datum, undefined, holds, Cell, own, refers, Reference, Store, cell_at, followed, home_by, home_of}
-use Rattle.pas_meaning.specs.Store.{top_of, along, fetched, stored, number_in, number_of, in_range, number_for, fits_by, fits}
-use Rattle.pas_meaning.specs.Store.{put_at, defined_by, fetched_as}
-use Rattle.pas_meaning.specs.Operands.{operand, element, byte_of, number_within}
+use Rattle.pas_meaning.specs.Store.{Datum, holds, Store}
+use Rattle.pas_meaning.specs.Store.{number_of}
+use Rattle.pas_meaning.specs.Operands.{operand, element, number_within}
 use Rattle.pas_meaning.specs.Run as run
 use Rattle.pas_meaning.specs.Run.{Flow, Spot, slot_of, path_of}
 use Rattle.pas_meaning.specs.FileSteps.{file_at, left, reset, rewrite, emptied_file}
 use Rattle.pas_meaning.specs.Cells.{IsShaped}
-use Rattle.pas_meaning.specs.Standing.{Kind, plain, named, kind_by, kind_of, Kinds, kind_at, Aims, Matches, Stands, Leaves}
-use Rattle.pas_meaning.specs.Standing.{Keeps, Knows}
-use Rattle.pas_meaning.proofs.StandingLemmas.{aims_along, fetched_shaped, stands_stored}
+use Rattle.pas_meaning.specs.Standing.{Kinds, Stands, Leaves}
+use Rattle.pas_meaning.specs.Standing.{Keeps}
 
 -- P holds of what is answered, if anything is
 abbrev pub Answered : {A : Type 0} → (A → Type 0) → Answer A → Type 0

@@ -1,41 +1,41 @@
 -- Places of a lawful program: where they are, what is read there and what may be stored there.
-use Rattle.std.proofs.Common.{◌≡◌, ℕ, zero, suc, ◌+◌, ◌-◌, ◌<◌, ◌≤◌, List, [], ◌∷◌, ◌++◌, length, Option, Some, None, Bool, true}
-use Rattle.std.proofs.Common.{false, IsSome, is_some, ℤ, pos, nat_abs, slice_get, slice_index_or, arith, refl, sym, ap, ap₂, ◌∙◌, subst}
+use Rattle.std.proofs.Common.{◌≡◌, ℕ, ◌-◌, ◌<◌, List, [], ◌∷◌, length, Option, Some, None}
+use Rattle.std.proofs.Common.{is_some, ℤ, pos, slice_get, arith, refl, sym, ap, ◌∙◌, subst}
 use Rattle.std.proofs.Common.{inl, inr, ◌⊎◌, All, option_map}
 use Rattle.std.specs.Prelude.{⊤}
 use Rattle.std.proofs.lemmas.Option.{slice_get_within, same_Some, get_or_from_slice_get, option_and_then_some}
-use Rattle.pas_typed.specs.Types.{Range, Field, PasType, Table, range_of, elements_of, fields_of, ArrayParts, count_of}
+use Rattle.pas_typed.specs.Types.{Range, Field, PasType, range_of, elements_of, fields_of, count_of}
 use Rattle.pas_typed.specs.Typed as typed
 use Rattle.pas_typed.specs.Typed.{Mode, Home, Slot, Variable, TypedProgram}
-use Rattle.pas_typed.specs.Shapes.{Shape, one_cell, Leads, shape_of}
-use Rattle.pas_typed.specs.Lawful.{IsOrdinal, Takes, IsDeclared, AreDeclared, variables_of, IsLawfulSlot, IsLawful, field_type}
+use Rattle.pas_typed.specs.Shapes.{Shape, Leads, shape_of}
+use Rattle.pas_typed.specs.Lawful.{IsOrdinal, Takes, variables_of, IsLawfulSlot, IsLawful, field_type}
 use Rattle.pas_typed.proofs.ShapeLemmas.{leads_on, shape_of-ordinal, element_leads, field_leads}
 use Rattle.pas_meaning.specs.declared.errors.TheConstants.{OUT_OF_RANGE}
-use Rattle.pas_meaning.specs.Answers.{Answer, fine, wrong, then_answer}
+use Rattle.pas_meaning.specs.Answers.{then_answer}
 use Rattle.pas_meaning.specs.Files as files
-use Rattle.pas_meaning.specs.Outcome.{World, Doing, ask}
-use Rattle.pas_meaning.specs.Store.{Datum, undefined, holds, Cell, own, refers, Reference, Store, cell_at, followed, home_by}
-use Rattle.pas_meaning.specs.Store.{home_of, top_of, along, fetched, stored, number_in, number_of, in_range, number_for}
-use Rattle.pas_meaning.specs.Store.{fits_by, fits, put_at, defined_by, fetched_as}
+use Rattle.pas_meaning.specs.Outcome.{World, ask}
+use Rattle.pas_meaning.specs.Store.{Datum, undefined, holds, Cell, own, refers, Store, cell_at, followed, home_by}
+use Rattle.pas_meaning.specs.Store.{home_of, top_of, along, number_in, number_of, in_range, number_for}
+use Rattle.pas_meaning.specs.Store.{fits_by, fits, put_at, defined_by}
 use Rattle.pas_meaning.specs.Operands.{byte_of}
-use Rattle.pas_meaning.specs.FileSteps.{change_file}
 use Rattle.pas_meaning.specs.Run as run
 use Rattle.pas_meaning.specs.Run.{Spot}
 use Rattle.pas_meaning.specs.Cells.{IsShaped}
-use Rattle.pas_meaning.specs.Standing.{Kind, plain, named, kind_by, kind_of, Kinds, kind_at, Aims, Matches, Stands, Keeps}
-use Rattle.pas_meaning.specs.Standing.{Knows}
+use Rattle.pas_meaning.specs.Standing.{kind_by, Kinds, kind_at, Aims, Matches, Stands, Keeps}
+use Rattle.pas_meaning.specs.Standing.{Knows, IsOfType, IsSpot}
 use Rattle.pas_meaning.proofs.StandingLemmas.{aims_along, fetched_shaped, stands_stored}
 use Rattle.pas_meaning.proofs.KeepsLemmas.{Answered, answered_any, answered_then, keeps_bind, keeps_any, keeps_ask}
 use Rattle.pas_meaning.proofs.KeepsLemmas.{keeps_changed, keeps_on_file, keeps_worldly}
 
-pub all_get : {A : Type 0} (P : A → Type 0) (xs : List A) (number : ℕ) (x : A) → All P xs → slice_get xs number ≡ Some x → P x
+pub all_get : {A : Type 0} (P : A → Type 0) (xs : List A) (number : ℕ) (x : A) → All P xs
+    → slice_get xs number ≡ Some x → P x
 all_get P xs number x all there =
     subst P (get_or_from_slice_get xs number x x there) (all number x (slice_get_within xs number x there))
 
 -- data of a type
 module _ (program : TypedProgram) (lawful : IsLawful program) where
-  abbrev pub Sound : PasType → Datum → Type 0
-  Sound type datum = IsShaped (shape_of program.types type) datum
+  abbrev Sound : PasType → Datum → Type 0
+  Sound type datum = IsOfType program.types type datum
 
   pub ordinal_holds : (type : PasType) (value : ℤ) → IsOrdinal program.types type → Sound type (holds value)
   ordinal_holds type value is =
@@ -45,7 +45,8 @@ module _ (program : TypedProgram) (lawful : IsLawful program) where
   ordinal_undefined type is =
       subst (λ shape. IsShaped shape undefined) (sym (shape_of-ordinal program.types type lawful.types is)) tt
 
-  ordinal_by : (type : PasType) (range : Range) → range_of program.types type ≡ Some range → IsOrdinal program.types type
+  ordinal_by : (type : PasType) (range : Range) → range_of program.types type ≡ Some range
+      → IsOrdinal program.types type
   ordinal_by type range is = ap is_some is
 
   -- a datum that a target of a type may take
@@ -82,7 +83,7 @@ module _ (program : TypedProgram) (lawful : IsLawful program) where
       (λ value is_value. ordinal_holds type value (ordinal_by type range is))
 
   -- where a variable is
-  abbrev pub shape : PasType → Shape
+  abbrev shape : PasType → Shape
   shape type = shape_of program.types type
 
   followed_aims : (kinds : Kinds) (activation variable : ℕ) (mode : Mode) (part : Shape) (cell : Cell)
@@ -122,36 +123,35 @@ module _ (program : TypedProgram) (lawful : IsLawful program) where
         subst (λ type. Aims kinds (home_of slot store) (shape type)) is.type
         (home_aims slot.home slot.number is.variable store stands is.there)
 
-    -- a place of a type, with its checked indexes
-    abbrev pub IsSpot : PasType → Spot → Type 0
-    IsSpot type (run.part slot path) =
-        IsLawfulSlot program variables slot × Leads (shape slot.type) path (shape type)
-    IsSpot type (run.window slot of_component) = (of_component ≡ type) × IsOrdinal program.types type
-
-    spot_on : (type part : PasType) (spot : Spot) (number : ℕ) → IsSpot type spot
-        → Leads (shape type) (number ∷ []) (shape part) → IsSpot part (run.along_part spot number)
+    spot_on : (type part : PasType) (spot : Spot) (number : ℕ) → IsSpot program variables type spot
+        → Leads (shape type) (number ∷ []) (shape part) → IsSpot program variables part (run.along_part spot number)
     spot_on type part (run.part slot path) number is leads =
         (is.0, leads_on path (number ∷ []) (shape slot.type) (shape type) (shape part) is.1 leads)
     spot_on type part (run.window slot of_component) number is leads =
-        absurd (omega (arith,
-        (subst (λ whole. Leads whole (number ∷ []) (shape part))
-        (shape_of-ordinal program.types type lawful.types is.1) leads).0))
+        absurd (omega (
+          arith,
+          (subst (λ whole. Leads whole (number ∷ []) (shape part))
+              (shape_of-ordinal program.types type lawful.types is.1) leads).0,
+        ))
 
-    pub element_spot : (type element : PasType) (range : Range) (spot : Spot) (number : ℕ) → IsSpot type spot
+    pub element_spot : (type element : PasType) (range : Range) (spot : Spot) (number : ℕ)
+        → IsSpot program variables type spot
         → elements_of program.types type ≡ Some (record { indexes = range; element = element })
-        → number < count_of range → IsSpot element (run.along_part spot number)
+        → number < count_of range → IsSpot program variables element (run.along_part spot number)
     element_spot type element range spot number is parts less =
         spot_on type element spot number is (element_leads program.types type _ lawful.types parts number less)
 
-    pub field_spot : (type of_field : PasType) (spot : Spot) (number : ℕ) → IsSpot type spot
-        → field_type program.types type number ≡ Some of_field → IsSpot of_field (run.along_part spot number)
+    pub field_spot : (type of_field : PasType) (spot : Spot) (number : ℕ) → IsSpot program variables type spot
+        → field_type program.types type number ≡ Some of_field
+        → IsSpot program variables of_field (run.along_part spot number)
     field_spot type of_field spot number is found =
         option_and_then_some (λ found. option_map (λ field. field.type) (slice_get found number))
-        (fields_of program.types type) of_field found (λ fields are there. in_fields fields are (slice_get fields number) refl there)
+        (fields_of program.types type) of_field found (λ fields are there. in_fields fields are
+        (slice_get fields number) refl there)
       where
         in_fields : (fields : List Field) → fields_of program.types type ≡ Some fields → (field : Option Field)
             → slice_get fields number ≡ field → option_map (λ (field : Field). field.type) field ≡ Some of_field
-            → IsSpot of_field (run.along_part spot number)
+            → IsSpot program variables of_field (run.along_part spot number)
         in_fields fields are None there typed_so = absurd (cc)
         in_fields fields are (Some field) there typed_so =
             spot_on type of_field spot number is
@@ -159,7 +159,8 @@ module _ (program : TypedProgram) (lawful : IsLawful program) where
             (field_leads program.types type fields lawful.types are number field there))
 
     -- what is read there
-    read_sound : (type : PasType) (spot : Spot) (store : Store) (world : World) → Stands kinds store → IsSpot type spot
+    read_sound : (type : PasType) (spot : Spot) (store : Store) (world : World) → Stands kinds store
+        → IsSpot program variables type spot
         → Answered (Sound type) (run.read_at program.types type spot store world)
     read_sound type (run.part slot path) store world stands is =
         defined_sound type _ (range_of program.types type) refl
@@ -167,12 +168,13 @@ module _ (program : TypedProgram) (lawful : IsLawful program) where
         (aims_along kinds (home_of slot store) (shape slot.type) (shape type) path
         (slot_aims slot store stands is.0) is.1))
     read_sound type (run.window slot of_component) store world stands is =
-        subst (λ component. Answered (Sound type) (run.read_at program.types type (run.window slot component) store world))
+        subst (λ component. Answered (Sound type) (run.read_at program.types type
+        (run.window slot component) store world))
         (sym is.0)
         (answered_then (λ byte. ⊤) (Sound type) (run.of_file slot files.buffer_read store world) _ (answered_any _)
         (λ byte is_byte. fits_sound type (holds (pos byte)) (inl is.1)))
 
-    pub keeps_read : (type : PasType) (spot : Spot) → IsSpot type spot
+    pub keeps_read : (type : PasType) (spot : Spot) → IsSpot program variables type spot
         → Keeps kinds kinds (Sound type) (ask (run.read_at program.types type spot))
     keeps_read type spot is =
         keeps_ask (run.read_at program.types type spot)
@@ -185,7 +187,8 @@ module _ (program : TypedProgram) (lawful : IsLawful program) where
         keeps_bind (keeps_any (then_answer (fits program.types of_component datum) (byte_of OUT_OF_RANGE)))
         (λ byte is_byte. keeps_on_file file _ (λ number. keeps_worldly _))
 
-    pub keeps_store : (type : PasType) (spot : Spot) (datum : Datum) → IsSpot type spot → MayTake type datum
+    pub keeps_store : (type : PasType) (spot : Spot) (datum : Datum) → IsSpot program variables type spot
+        → MayTake type datum
         → Keeps kinds kinds (λ value. ⊤) (run.store_at program.types type spot datum)
     keeps_store type (run.part slot path) datum is may =
         keeps_changed (λ store. put_at program.types type (along (home_of slot store) path) datum store)

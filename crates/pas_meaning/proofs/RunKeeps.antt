@@ -1,16 +1,17 @@
 -- Each statement of a lawful program keeps the variables in their shapes, over the whole language.
-use Rattle.std.proofs.Common.{◌≡◌, ℕ, zero, suc, ◌-◌, List, [], ◌∷◌, length, Option, Some, None, Bool, true, false, ℤ, pos}
-use Rattle.std.proofs.Common.{refl, sym, ap, ◌∙◌, subst, All, IfSome, arith, inl, inr}
+use Rattle.std.proofs.Common.{◌≡◌, ℕ, zero, suc, ◌-◌, List, [], ◌∷◌, length, Option, Some, None, ℤ, pos}
+use Rattle.std.proofs.Common.{refl, sym, ap, ◌∙◌, All, IfSome, arith, inl}
 use Rattle.std.specs.Prelude.{⊤}
 use Rattle.std.specs.List.{list_any}
 use Rattle.pas_syntax.specs.declared.operators.Way.{Way}
-use Rattle.pas_typed.specs.Types.{PasType, whole}
+use Rattle.pas_typed.specs.Types.{PasType}
 use Rattle.pas_typed.specs.Typed as typed
 use Rattle.pas_typed.specs.Typed.{FileStep, Variable, Slot, Value, Place, Passed, Item, Statement, Statements, Arms}
 use Rattle.pas_typed.specs.Typed.{TypedProgram}
 use Rattle.pas_typed.specs.TypeOf.{type_of_place, type_of}
 use Rattle.pas_typed.specs.Lawful.{IsOrdinal, IsLawful, IsLawfulSlot, IsLawfulValue, IsLawfulPlace, IsLawfulTarget}
 use Rattle.pas_typed.specs.Lawful.{IsLawfulItem, IsLawfulStatement, AreLawful, AreLawfulArms}
+use Rattle.pas_typed.specs.Shapes.{shape_of}
 use Rattle.pas_typed.proofs.ShapeLemmas.{shape_of-ordinal}
 use Rattle.pas_meaning.specs.declared.errors.TheConstants.{OUT_OF_RANGE, NO_CASE_MATCHES, STATUS_OUT_OF_RANGE}
 use Rattle.pas_meaning.specs.Answers.{wrong}
@@ -22,12 +23,14 @@ use Rattle.pas_meaning.specs.Arithmetic.{is_same, within_maxint}
 use Rattle.pas_meaning.specs.Operands.{byte_of, truth_of}
 use Rattle.pas_meaning.specs.Run as run
 use Rattle.pas_meaning.specs.Run.{Flow, Entry, Doings, Spot}
-use Rattle.pas_meaning.specs.Standing.{plain, Kinds, kind_at, Stands, Keeps, Knows, KeepsAll}
+use Rattle.pas_meaning.specs.Standing.{plain, Kinds, kind_at, Keeps, Knows, KeepsAll, IsOfType}
 use Rattle.pas_meaning.proofs.StandingLemmas.{stands_set, stands_stored}
 use Rattle.pas_meaning.proofs.KeepsLemmas.{keeps_bind, keeps_then, keeps_pure, keeps_answered, keeps_any, keeps_asked}
 use Rattle.pas_meaning.proofs.KeepsLemmas.{keeps_change, keeps_stop, keeps_if, keeps_worldly, keeps_step, keeps_checked}
-use Rattle.pas_meaning.proofs.KeepsLemmas.{keeps_operand, keeps_operand_alone, keeps_reset, keeps_rewrite, keeps_on, keeps_on_file}
-use Rattle.pas_meaning.proofs.PlaceKeeps.{Sound, shape, ordinal_undefined, MayTake, may_take, fits_sound, slot_aims, keeps_store, keeps_window}
+use Rattle.pas_meaning.proofs.KeepsLemmas.{keeps_operand, keeps_operand_alone, keeps_reset, keeps_rewrite, keeps_on}
+use Rattle.pas_meaning.proofs.KeepsLemmas.{keeps_on_file}
+use Rattle.pas_meaning.proofs.PlaceKeeps.{ordinal_undefined, MayTake, may_take, fits_sound, slot_aims, keeps_store}
+use Rattle.pas_meaning.proofs.PlaceKeeps.{keeps_window}
 use Rattle.pas_meaning.proofs.CallKeeps.{keeps_call}
 use Rattle.pas_meaning.proofs.ValueKeeps.{keeps_value, keeps_place, keeps_arguments}
 
@@ -35,7 +38,8 @@ use Rattle.pas_meaning.proofs.ValueKeeps.{keeps_value, keeps_place, keeps_argume
 abbrev pub Kept : {A : Type 0} → Kinds → Doing Store A → Type 0
 Kept kinds doing = Keeps kinds kinds (λ value. ⊤) doing
 
-kept_file : {A : Type 0} {kinds : Kinds} (place : Place) {next : Slot → Doing Store A} → ((file : Slot) → Kept kinds (next file))
+kept_file : {A : Type 0} {kinds : Kinds} (place : Place) {next : Slot → Doing Store A}
+    → ((file : Slot) → Kept kinds (next file))
     → Kept kinds (answered (run.file_variable place) >>= next)
 kept_file place next = keeps_bind (keeps_any (run.file_variable place)) (λ file is. next file)
 
@@ -43,13 +47,14 @@ module _ (program : TypedProgram) (lawful : IsLawful program) (limit : Option �
     (keeps_below : KeepsAll program below) (variables : List Variable) (result : Option PasType) (kinds : Kinds)
     (knows : Knows program variables result kinds) where
   abbrev at_value : (found : Value) → IsLawfulValue program variables found
-      → Keeps kinds kinds (Sound program lawful (type_of found)) (run.value limit program below found)
+      → Keeps kinds kinds (IsOfType program.types (type_of found)) (run.value limit program below found)
   at_value = keeps_value program lawful limit below keeps_below variables result kinds knows
 
   kept_assigned : (place : Place) (datum : Datum) → IsLawfulPlace program variables place
       → MayTake program lawful (type_of_place place) datum → Kept kinds (run.assigned limit program below place datum)
   kept_assigned place datum is may =
-      keeps_bind (keeps_place program lawful limit below keeps_below variables result kinds knows place is) (λ spot spot_is.
+      keeps_bind (keeps_place program lawful limit below keeps_below variables result kinds knows place is)
+      (λ spot spot_is.
       keeps_store program lawful variables result kinds knows (type_of_place place) spot datum spot_is.0 may)
 
   kept_file_step : (step : FileStep) (file : ℕ) → Kept kinds (run.file_step limit program below step file)
@@ -58,7 +63,8 @@ module _ (program : TypedProgram) (lawful : IsLawful program) (limit : Option �
   kept_file_step typed.get file = keeps_worldly _
   kept_file_step typed.put file = keeps_worldly _
 
-  kept_step_on : (step : FileStep) (file : Slot) → Kept kinds (run.on_file file (run.file_step limit program below step))
+  kept_step_on : (step : FileStep) (file : Slot)
+      → Kept kinds (run.on_file file (run.file_step limit program below step))
   kept_step_on step file = keeps_on_file file (run.file_step limit program below step) (kept_file_step step)
 
   kept_buffer : (type : PasType) (file : Slot)
@@ -74,7 +80,8 @@ module _ (program : TypedProgram) (lawful : IsLawful program) (limit : Option �
   kept_read_item : (type : PasType) (file : Slot) (place : Place) → IsLawfulTarget program variables place
       → Kept kinds (run.read_item limit program below type file place)
   kept_read_item type file place is =
-      keeps_bind (kept_buffer type file) (λ datum is_datum. keeps_then (kept_assigned place datum is.0 (inl is.1)) (kept_step_on typed.get file))
+      keeps_bind (kept_buffer type file) (λ datum is_datum. keeps_then (kept_assigned place datum is.0 (inl is.1))
+      (kept_step_on typed.get file))
 
   kept_read_items : (type : PasType) (file : Slot) (places : List Place) → All (IsLawfulTarget program variables) places
       → Kept kinds (run.read_items limit program below type file places)
@@ -125,13 +132,15 @@ module _ (program : TypedProgram) (lawful : IsLawful program) (limit : Option �
       (kept_bytes type file items (λ k d less. are (suc k) d (omega (arith, less))))
 
   kept_entered : (list : Statements) (entry : ℕ → Entry) (around : Statement) (label : ℕ)
-      → IsLawfulStatement program variables result around → Kept kinds (run.entered limit program below list entry around label)
+      → IsLawfulStatement program variables result around
+      → Kept kinds (run.entered limit program below list entry around label)
   kept_entered list entry around label is =
       keeps_if (run.has_label list label)
       (keeps_then keeps_step (keeps_below variables result kinds knows (entry label) around is)) (keeps_pure _ tt)
 
   kept_behind_list : (list : Statements) (around : Statement) (flow : Flow)
-      → IsLawfulStatement program variables result around → Kept kinds (run.behind_list limit program below list around flow)
+      → IsLawfulStatement program variables result around
+      → Kept kinds (run.behind_list limit program below list around flow)
   kept_behind_list list around run.next is = keeps_pure run.next tt
   kept_behind_list list around run.leaves is = keeps_pure run.leaves tt
   kept_behind_list list around (run.jump label) is = kept_entered list run.at around label is
@@ -164,8 +173,8 @@ module _ (program : TypedProgram) (lawful : IsLawful program) (limit : Option �
     kept_next_stored : (found : ℤ) → Kept kinds (run.next_value_stored limit program below slot way found)
     kept_next_stored found =
         keeps_bind (keeps_any (within_maxint (run.next_value way found))) (λ following is_following.
-        keeps_then (keeps_store program lawful variables result kinds knows slot.type (run.part slot []) (holds following)
-        (declared, refl) (inl ordinal)) (keeps_pure run.next tt))
+        keeps_then (keeps_store program lawful variables result kinds knows slot.type (run.part slot [])
+        (holds following) (declared, refl) (inl ordinal)) (keeps_pure run.next tt))
 
     kept_counted : (last : ℤ) → Kept kinds (run.counted limit program below slot way last)
     kept_counted last =
@@ -176,10 +185,10 @@ module _ (program : TypedProgram) (lawful : IsLawful program) (limit : Option �
         → Kept kinds (run.for_turn limit program below slot way last list)
     kept_for_turn last list = keeps_bind list (λ flow is_flow. keeps_on flow (kept_counted last))
 
-    kept_stored : (datum : Datum) → Sound program lawful slot.type datum
+    kept_stored : (datum : Datum) → IsOfType program.types slot.type datum
         → Kept kinds (change (λ found. store.stored (store.home_of slot found) datum found))
     kept_stored datum sound = keeps_change _ (λ found stands.
-        stands_stored kinds found (store.home_of slot found) (shape program lawful slot.type) datum stands
+        stands_stored kinds found (store.home_of slot found) (shape_of program.types slot.type) datum stands
         (slot_aims program lawful variables result kinds knows slot found stands declared) sound)
 
     kept_forget : Kept kinds (change (run.forget slot) >> pure run.next)
@@ -201,17 +210,17 @@ module _ (program : TypedProgram) (lawful : IsLawful program) (limit : Option �
         → Kept kinds (run.items limit program below None list)
         → Kept kinds (run.statement limit program below run.start (typed.for slot way first last list))
     kept_for_start first last list first_is last_is are kept =
-        keeps_operand number_of (at_value first first_is) (λ low. keeps_operand number_of (at_value last last_is) (λ high.
-        kept_for low high _ (keeps_then keeps_step (keeps_bind (kept_for_turn high kept) (λ flow is_flow.
+        keeps_operand number_of (at_value first first_is) (λ low. keeps_operand number_of (at_value last last_is)
+        (λ high. kept_for low high _ (keeps_then keeps_step (keeps_bind (kept_for_turn high kept) (λ flow is_flow.
         kept_looped list (run.turn_at high) (run.turn high) (typed.for slot way first last list) flow
         (declared, ordinal, first_is, last_is, are))))))
 
   kept_result : (cell : ℕ) (type : PasType) (datum : Datum) → cell ≡ length variables → result ≡ Some type
-      → Sound program lawful type datum → Kept kinds (change (run.with_result cell datum))
+      → IsOfType program.types type datum → Kept kinds (change (run.with_result cell datum))
   kept_result cell type datum there typed_so sound = keeps_change _ (λ found stands.
-      stands_set kinds found (store.top_of found) cell (plain (shape program lawful type)) (own datum) stands
+      stands_set kinds found (store.top_of found) cell (plain (shape_of program.types type)) (own datum) stands
       (ap (λ rows. kind_at kinds (rows - 1) cell) stands.rows ∙ ap (kind_at kinds (length kinds - 1)) there
-      ∙ knows.result_cell type typed_so ∙ ap (λ shape. Some (plain shape))
+      ∙ knows.result_cell type typed_so ∙ ap (λ part. Some (plain part))
       (sym (shape_of-ordinal program.types type lawful.types (knows.ordinal type typed_so)))) sound)
 
   mutual
@@ -228,8 +237,8 @@ module _ (program : TypedProgram) (lawful : IsLawful program) (limit : Option �
     kept_statement from (typed.calls routine passed) is =
         keeps_bind (keeps_arguments program lawful limit below keeps_below variables result kinds knows passed
         is.0.parameters is.2) (λ arguments are.
-        keeps_then (keeps_call program lawful variables result kinds knows limit below keeps_below routine is.0 arguments
-        is.1 are) (keeps_pure run.next tt))
+        keeps_then (keeps_call program lawful variables result kinds knows limit below keeps_below routine is.0
+        arguments is.1 are) (keeps_pure run.next tt))
     kept_statement from (typed.compound list) is =
         keeps_bind (kept_list (run.label_in from) list is)
         (λ flow is_flow. kept_behind_list list (typed.compound list) flow is)
@@ -319,11 +328,13 @@ module _ (program : TypedProgram) (lawful : IsLawful program) (limit : Option �
         (keeps_bind (kept_statement run.start s is.0) (λ flow is_flow. keeps_on flow (kept_list None list is.1)))
         (kept_list (Some wanted) list is.1)
 
-    pub kept_arm : (found : ℤ) (arms : Arms) {otherwise : Doing Store Flow} → AreLawfulArms program variables result arms
+    pub kept_arm : (found : ℤ) (arms : Arms) {otherwise : Doing Store Flow}
+        → AreLawfulArms program variables result arms
         → Kept kinds otherwise → Kept kinds (run.arm limit program below found arms otherwise)
     kept_arm found typed.no_arms is otherwise = otherwise
     kept_arm found (typed.arm values s arms) is otherwise =
-        keeps_if (list_any (is_same found) values) (kept_statement run.start s is.0) (kept_arm found arms is.1 otherwise)
+        keeps_if (list_any (is_same found) values) (kept_statement run.start s is.0)
+        (kept_arm found arms is.1 otherwise)
 
 -- within each bound
 pub keeps_within : (limit : Option ℕ) (program : TypedProgram) → IsLawful program → (bound : ℕ)

@@ -1,14 +1,14 @@
 -- Stores that stand as they are declared: reading, storing, opening and closing.
-use Rattle.std.proofs.Common.{◌≡◌, ℕ, zero, suc, ◌+◌, ◌-◌, ◌<◌, ◌≤◌, List, [], ◌∷◌, ◌++◌, length, map, take, drop, Option}
-use Rattle.std.proofs.Common.{Some, None, set, get_or, slice_get, slice_set, slice_index_or, arith, refl, sym, ap, ap₂, ◌∙◌, subst}
+use Rattle.std.proofs.Common.{◌≡◌, ℕ, zero, suc, ◌<◌, ◌≤◌, List, [], ◌∷◌, ◌++◌, length, take}
+use Rattle.std.proofs.Common.{Some, slice_get, slice_set, slice_index_or, arith, refl, sym, ap, ap₂, ◌∙◌, subst}
 use Rattle.std.proofs.Common.{subst₂, length-append, length-set, get_or-set_same, get_or-set_other, inl, inr, ◌⊎◌}
 use Rattle.std.proofs.lemmas.Bool.{cases_eq, cases_lt, cases_order}
 use Rattle.std.proofs.lemmas.List.{get_or_append_left, get_or_push, get_or_past, get_or-take, length-take-le}
 use Rattle.std.specs.Prelude.{⊤}
 use Rattle.std.proofs.lemmas.Option.{slice_get_within, same_Some}
-use Rattle.pas_typed.specs.Shapes.{Shape, one_cell, Leads}
+use Rattle.pas_typed.specs.Shapes.{Shape, Leads}
 use Rattle.pas_typed.proofs.ShapeLemmas.{leads_on}
-use Rattle.pas_meaning.specs.Store.{Datum, undefined, Cell, own, refers, Reference, Store, cell_at, with_cell, part_at, with_part_at}
+use Rattle.pas_meaning.specs.Store.{Datum, undefined, Cell, own, refers, Reference, Store, cell_at, with_cell}
 use Rattle.pas_meaning.specs.Store.{held_by, fetched, stored, along, opened, closed, top_of}
 use Rattle.pas_meaning.specs.Cells.{IsShaped}
 use Rattle.pas_meaning.specs.Standing.{Kind, plain, named, Kinds, kind_at, Aims, Matches, Stands}
@@ -224,7 +224,8 @@ module _ (kinds : Kinds) (row : List Kind) where
           subst (Matches (kinds ++ row ∷ []) activation kind)
           (sym (ap (λ row. slice_index_or row variable (own undefined))
           (get_or_push store cells [] activation (stands.rows ∙ sym same))))
-          (subst (λ activation. Matches (kinds ++ row ∷ []) activation kind (slice_index_or cells variable (own undefined)))
+          (subst (λ activation. Matches (kinds ++ row ∷ []) activation kind
+          (slice_index_or cells variable (own undefined)))
           (sym same) (all_at (kinds ++ row ∷ []) (length kinds) row cells variable kind all
           (sym (kind_last variable) ∙ ap (λ activation. kind_at (kinds ++ row ∷ []) activation variable) (sym same)
           ∙ there)))
@@ -236,8 +237,12 @@ module _ (kinds : Kinds) (row : List Kind) where
           (stands.cells activation variable kind
           (sym (kind_stays kinds (row ∷ []) activation variable less) ∙ there)))
       cell_after activation variable kind there (inr (inr past)) =
-          absurd (omega (arith, past, kind_row (kinds ++ row ∷ []) activation variable kind there,
-          length-append kinds (row ∷ [])))
+          absurd (omega (
+            arith,
+            past,
+            kind_row (kinds ++ row ∷ []) activation variable kind there,
+            length-append kinds (row ∷ []),
+          ))
 
   -- and closes
   pub stands_closed : (store : Store) → Stands (kinds ++ row ∷ []) store → Stands kinds (closed store)

@@ -1,6 +1,7 @@
 -- The variables of a lawful program stand as they are declared at the start of a run.
-use Rattle.std.proofs.Common.{◌≡◌, ℕ, zero, suc, ◌+◌, ◌==◌, List, [], ◌∷◌, ◌++◌, length, map, Option, Some, None, arith, refl}
-use Rattle.std.proofs.Common.{sym, ap, ◌∙◌, subst, pos, position, slice_get, get_or, option_map, unwrap_or, eqb-true, IsSomeAnd}
+use Rattle.std.proofs.Common.{◌≡◌, ℕ, suc, ◌+◌, ◌==◌, List, [], ◌∷◌, map, Option, Some, None, arith, refl}
+use Rattle.std.proofs.Common.{sym, ap, ◌∙◌, subst, pos, position, slice_get, get_or, option_map, unwrap_or, eqb-true}
+use Rattle.std.proofs.Common.{IsSomeAnd}
 use Rattle.std.proofs.lemmas.List.Quantifiers.{position-Some}
 use Rattle.std.proofs.lemmas.Option.{slice_get-map}
 use Rattle.std.specs.Prelude.{⊤}
@@ -9,11 +10,10 @@ use Rattle.pas_typed.specs.Typed.{Variable, TypedProgram}
 use Rattle.pas_typed.specs.Lawful.{IsLawful, IsFile}
 use Rattle.pas_typed.specs.Shapes.{shape_of}
 use Rattle.pas_typed.proofs.ShapeLemmas.{shape_of-file}
-use Rattle.pas_meaning.specs.Outcome.{Doing}
-use Rattle.pas_meaning.specs.Store.{Datum, holds, Cell, own, blank_of}
-use Rattle.pas_meaning.specs.Trial.{global_cell, cells_from, store_at_start, begun_by, begin_files}
+use Rattle.pas_meaning.specs.Store.{holds, blank_of}
+use Rattle.pas_meaning.specs.Trial.{global_cell, cells_from, store_at_start, begin_files}
 use Rattle.pas_meaning.specs.Cells.{IsShaped}
-use Rattle.pas_meaning.specs.Standing.{Kind, kind_by, kind_of, Kinds, kinds_at_start, Matches, Stands, Keeps, Knows}
+use Rattle.pas_meaning.specs.Standing.{kind_by, kind_of, Kinds, kinds_at_start, Matches, Stands, Keeps, Knows}
 use Rattle.pas_meaning.proofs.CellLemmas.{blank_of-shaped}
 use Rattle.pas_meaning.proofs.StandingLemmas.{AllMatch, stands_opened}
 use Rattle.pas_meaning.proofs.KeepsLemmas.{keeps_then, keeps_pure, keeps_if, keeps_reset, keeps_rewrite}
@@ -29,9 +29,10 @@ module _ (program : TypedProgram) (lawful : IsLawful program) where
       let first = position-Some (λ other. other == number) program.files file 0 is in
       let named = eqb-true (get_or program.files file 0) number first.1 in
       let filed : IsFile program.types found.type =
-          subst (λ variable. IsSomeAnd variable (λ (found : Variable). IsFile program.types found.type))
-          (ap (slice_get program.globals) named ∙ there) (lawful.files file 0 first.0) in
-      subst (λ shape. IsShaped shape (holds (pos file))) (sym (shape_of-file program.types found.type lawful.types filed))
+      subst (λ variable. IsSomeAnd variable (λ (found : Variable). IsFile program.types found.type))
+      (ap (slice_get program.globals) named ∙ there) (lawful.files file 0 first.0) in
+      subst (λ shape. IsShaped shape (holds (pos file)))
+      (sym (shape_of-file program.types found.type lawful.types filed))
       tt
 
   globals_match : (kinds : Kinds) (number : ℕ) (variables : List Variable)
@@ -41,12 +42,15 @@ module _ (program : TypedProgram) (lawful : IsLawful program) where
   globals_match kinds number [] there = tt
   globals_match kinds number (found ∷ variables) there =
       let here : slice_get program.globals number ≡ Some found =
-          ap (slice_get program.globals) (omega arith) ∙ there 0 found refl in
-      (subst (λ mode. Matches kinds 0 (kind_by mode (shape_of program.types found.type)) (global_cell program number found))
-      (sym (all_get (λ (found : Variable). found.mode ≡ typed.declared) program.globals number found lawful.globals here))
-      (global_shaped number found here (position (λ other. other == number) program.files) refl),
-      globals_match kinds (suc number) variables (λ other found is.
-      ap (slice_get program.globals) (omega arith) ∙ there (suc other) found is))
+      ap (slice_get program.globals) (omega arith) ∙ there 0 found refl in (
+        subst (λ mode. Matches kinds 0 (kind_by mode (shape_of program.types found.type))
+        (global_cell program number found))
+            (sym (all_get (λ (found : Variable). found.mode ≡ typed.declared) program.globals number found
+            lawful.globals here))
+            (global_shaped number found here (position (λ other. other == number) program.files) refl),
+        globals_match kinds (suc number) variables (λ other found is.
+            ap (slice_get program.globals) (omega arith) ∙ there (suc other) found is),
+      )
 
   pub stands_at_start : Stands (kinds_at_start program) (store_at_start program)
   stands_at_start =

@@ -1,46 +1,33 @@
 -- Each statement of a lawful program keeps the variables in their shapes, over the whole language.
-use Rattle.std.proofs.Common.{◌≡◌, ℕ, zero, suc, ◌<◌, List, [], ◌∷◌, length, Option, Some, None, Bool, true, false, ℤ, pos, not}
-use Rattle.std.proofs.Common.{refl, sym, ap, ◌∙◌, subst, All, IfSome, arith, inl, inr, slice_get}
-use Rattle.std.specs.Prelude.{⊤}
-use Rattle.std.specs.List.{list_any}
-use Rattle.std.proofs.lemmas.Option.{MatchOption-at_some}
+use Rattle.std.proofs.Common.{◌≡◌, ℕ, List, [], ◌∷◌, Option, true, false, not}
+use Rattle.std.proofs.Common.{refl, sym, ◌∙◌, subst, inl}
 use Rattle.pas_syntax.specs.declared.operators.Multiplying.TheVariants as multiplying
 use Rattle.pas_syntax.specs.declared.operators.Adding.TheVariants as adding
-use Rattle.pas_syntax.specs.declared.operators.Way.{Way}
-use Rattle.pas_typed.specs.Types.{PasType, whole, integer, boolean, component_of, ArrayParts}
+use Rattle.pas_typed.specs.Types.{PasType, whole, boolean}
 use Rattle.pas_typed.specs.Typed as typed
 use Rattle.pas_typed.specs.Typed.{FileStep, Variable, Slot, Value, Place, Passed, Item, Statement, Statements, Arms}
 use Rattle.pas_typed.specs.Typed.{Heading, Body, TypedProgram}
 use Rattle.pas_typed.specs.TypeOf.{type_of_place, type_of, is_buffer}
-use Rattle.pas_typed.specs.Lawful.{IsOrdinal, Takes, IsLawful, IsLawfulSlot, IsLawfulValue, IsLawfulPlace, ArePassed}
-use Rattle.pas_typed.specs.Lawful.{IsLawfulFile, IsLawfulTarget, IsLawfulItem, IsLawfulStatement, AreLawful, AreLawfulArms}
+use Rattle.pas_typed.specs.Lawful.{IsOrdinal, IsLawful, IsLawfulValue, IsLawfulPlace, ArePassed}
 use Rattle.pas_typed.proofs.ShapeLemmas.{component-ordinal}
-use Rattle.pas_meaning.specs.declared.errors.TheConstants.{OUT_OF_RANGE, NO_CASE_MATCHES, STATUS_OUT_OF_RANGE}
-use Rattle.pas_meaning.specs.Answers.{Answer, fine, wrong, then_answer}
-use Rattle.pas_meaning.specs.Files as files
-use Rattle.pas_meaning.specs.Outcome.{halted, World, Doing, pure, ◌>>=◌, ◌>>◌, answered, ask, change, take_step}
-use Rattle.pas_meaning.specs.Store as store
-use Rattle.pas_meaning.specs.Store.{Datum, undefined, holds, parts, Store, number_of, fits}
-use Rattle.pas_meaning.specs.Arithmetic.{is_same, function_at, signed, multiplied, added, compared, within_maxint}
-use Rattle.pas_meaning.specs.Operands.{operand, element, byte_of, truth_of}
-use Rattle.pas_meaning.specs.FileSteps.{change_file, reset, rewrite, append, put}
+use Rattle.pas_meaning.specs.Store.{Datum, undefined, holds, parts, number_of, fits}
+use Rattle.pas_meaning.specs.Arithmetic.{function_at, signed, multiplied, added, compared}
+use Rattle.pas_meaning.specs.Operands.{element, truth_of}
 use Rattle.pas_meaning.specs.Run as run
 use Rattle.pas_meaning.specs.Run.{Flow, Entry, Doings, Spot, Argument}
-use Rattle.pas_meaning.specs.Cells.{IsShaped}
-use Rattle.pas_meaning.specs.Standing.{plain, Kinds, Stands, Keeps, Knows, KeepsAll}
-use Rattle.pas_meaning.proofs.StandingLemmas.{stands_set, stands_stored}
-use Rattle.pas_meaning.proofs.KeepsLemmas.{Answered, answered_any, answered_then, keeps_bind, keeps_then, keeps_pure}
-use Rattle.pas_meaning.proofs.KeepsLemmas.{keeps_answered, keeps_any, keeps_asked, keeps_number, keeps_change, keeps_stop, keeps_if, keeps_worldly, keeps_step}
-use Rattle.pas_meaning.proofs.KeepsLemmas.{keeps_checked, keeps_operand, keeps_on, keeps_on_file, element_below}
-use Rattle.pas_meaning.proofs.PlaceKeeps.{Sound, shape, ordinal_holds, may_take, fits_sound, IsSpot, slot_aims}
-use Rattle.pas_meaning.proofs.PlaceKeeps.{element_spot, field_spot, keeps_read, keeps_store, all_get}
-use Rattle.pas_meaning.proofs.CallKeeps.{is_window, AreFor, result_ordinal, keeps_call}
+use Rattle.pas_meaning.specs.Standing.{Kinds, Keeps, Knows, KeepsAll, IsOfType, IsSpot, is_window, AreFor}
+use Rattle.pas_meaning.proofs.KeepsLemmas.{Answered, keeps_bind, keeps_pure}
+use Rattle.pas_meaning.proofs.KeepsLemmas.{keeps_answered, keeps_any, keeps_asked, keeps_number, keeps_if}
+use Rattle.pas_meaning.proofs.KeepsLemmas.{keeps_checked, keeps_operand, element_below}
+use Rattle.pas_meaning.proofs.PlaceKeeps.{ordinal_holds, may_take, fits_sound}
+use Rattle.pas_meaning.proofs.PlaceKeeps.{element_spot, field_spot, keeps_read}
+use Rattle.pas_meaning.proofs.CallKeeps.{result_ordinal, keeps_call}
 
 module _ (program : TypedProgram) (lawful : IsLawful program) (limit : Option ℕ) (below : Doings)
     (keeps_below : KeepsAll program below) (variables : List Variable) (result : Option PasType) (kinds : Kinds)
     (knows : Knows program variables result kinds) where
   defined_sound : (type : PasType) (datum : Datum) → IsOrdinal program.types type
-      → Answered (Sound program lawful type) (run.defined_result datum)
+      → Answered (IsOfType program.types type) (run.defined_result datum)
   defined_sound type undefined is = tt
   defined_sound type (holds value) is = ordinal_holds program lawful type value is
   defined_sound type (parts found) is = tt
@@ -48,24 +35,25 @@ module _ (program : TypedProgram) (lawful : IsLawful program) (limit : Option �
   -- a place by its spot, which is a window where the place is a buffer
   abbrev pub IsSpotOf : Place → Spot → Type 0
   IsSpotOf place spot =
-      IsSpot program lawful variables result kinds knows (type_of_place place) spot × (is_window spot ≡ is_buffer place)
+      IsSpot program variables (type_of_place place) spot × (is_window spot ≡ is_buffer place)
 
-  boolean_sound : (source : PasType) (datum : Datum) → Sound program lawful source datum
-      → Answered (Sound program lawful (whole boolean)) (fits program.types (whole boolean) datum)
+  boolean_sound : (source : PasType) (datum : Datum) → IsOfType program.types source datum
+      → Answered (IsOfType program.types (whole boolean)) (fits program.types (whole boolean) datum)
   boolean_sound source datum sound = fits_sound program lawful (whole boolean) datum (inl refl)
 
   mutual
     pub keeps_value : (found : Value) → IsLawfulValue program variables found
-        → Keeps kinds kinds (Sound program lawful (type_of found)) (run.value limit program below found)
+        → Keeps kinds kinds (IsOfType program.types (type_of found)) (run.value limit program below found)
     keeps_value (typed.constant base number) is = keeps_pure _ tt
     keeps_value (typed.read place) is =
         keeps_bind (keeps_place place is) (λ spot spot_is.
         keeps_read program lawful variables result kinds knows (type_of_place place) spot spot_is.0)
     keeps_value (typed.call routine type passed) is =
         keeps_bind (keeps_arguments passed is.0.parameters is.3) (λ arguments are.
-        keeps_bind (keeps_call program lawful variables result kinds knows limit below keeps_below routine is.0 arguments
-        is.1 are) (λ found is_found.
-        keeps_answered (run.defined_result found) (defined_sound type found (result_ordinal program lawful routine is.0 type is.1 is.2))))
+        keeps_bind (keeps_call program lawful variables result kinds knows limit below keeps_below routine is.0
+        arguments is.1 are) (λ found is_found.
+        keeps_answered (run.defined_result found) (defined_sound type found
+        (result_ordinal program lawful routine is.0 type is.1 is.2))))
     keeps_value (typed.applied typed.ord argument) is =
         keeps_operand number_of (keeps_value argument is) (λ found. keeps_number (function_at typed.ord found))
     keeps_value (typed.applied typed.chr argument) is =
@@ -115,20 +103,24 @@ module _ (program : TypedProgram) (lawful : IsLawful program) (limit : Option �
     keeps_place (typed.element place range type index) is =
         keeps_bind (keeps_place place is.0) (λ spot spot_is.
         keeps_bind (keeps_checked (element range) (keeps_value index is.1) (λ datum sound. element_below range datum))
-        (λ number less. keeps_pure (run.along_part spot number)
-        (element_spot program lawful variables result kinds knows (type_of_place place) type range spot number spot_is.0
-        is.2 less, refl)))
+        (λ number less. keeps_pure (run.along_part spot number) (
+          element_spot program lawful variables result kinds knows
+          (type_of_place place) type range spot number spot_is.0
+              is.2 less,
+          refl,
+        )))
     keeps_place (typed.field place number type) is =
-        keeps_bind (keeps_place place is.0) (λ spot spot_is. keeps_pure (run.along_part spot number)
-        (field_spot program lawful variables result kinds knows (type_of_place place) type spot number spot_is.0 is.1,
-        refl))
+        keeps_bind (keeps_place place is.0) (λ spot spot_is. keeps_pure (run.along_part spot number) (
+          field_spot program lawful variables result kinds knows (type_of_place place) type spot number spot_is.0 is.1,
+          refl,
+        ))
     keeps_place (typed.buffer place type) is =
         keeps_bind (keeps_any (run.file_variable place)) (λ file is_file.
         keeps_pure (run.window file type)
         ((refl, component-ordinal program.types (type_of_place place) type lawful.types is.1), refl))
 
     pub keeps_arguments : (passed : Passed) (parameters : List Variable) → ArePassed program variables passed parameters
-        → Keeps kinds kinds (AreFor program lawful variables result kinds knows parameters)
+        → Keeps kinds kinds (AreFor program variables parameters)
         (run.arguments_of limit program below passed)
     keeps_arguments typed.nothing [] is = keeps_pure [] tt
     keeps_arguments typed.nothing (parameter ∷ parameters) is = absurd is
@@ -139,11 +131,14 @@ module _ (program : TypedProgram) (lawful : IsLawful program) (limit : Option �
         (may_take program lawful type (type_of argument) datum is.3 sound))) (λ datum sound.
         keeps_bind (keeps_arguments others parameters is.4) (λ arguments are.
         keeps_pure (run.copied datum ∷ arguments)
-        (is.0, subst (λ type. Sound program lawful type datum) (sym is.1) sound, are)))
+        (is.0, subst (λ type. IsOfType program.types type datum) (sym is.1) sound, are)))
     keeps_arguments (typed.reference place others) [] is = absurd is
     keeps_arguments (typed.reference place others) (parameter ∷ parameters) is =
         keeps_bind (keeps_place place is.2) (λ spot spot_is.
         keeps_bind (keeps_arguments others parameters is.4) (λ arguments are.
-        keeps_pure (run.meant spot ∷ arguments)
-        (is.0, subst (λ type. IsSpot program lawful variables result kinds knows type spot) (sym is.1) spot_is.0,
-        spot_is.1 ∙ is.3, are)))
+        keeps_pure (run.meant spot ∷ arguments) (
+          is.0,
+          subst (λ type. IsSpot program variables type spot) (sym is.1) spot_is.0,
+          spot_is.1 ∙ is.3,
+          are,
+        )))

@@ -1,15 +1,16 @@
 -- The variables of a lawful program keep their shapes: what is declared for each, and that it stands so. This
 -- project's own.
-use Rattle.std.specs.Prelude.{◌≡◌, ℕ, ◌-◌, ◌<◌, List, [], ◌∷◌, ◌++◌, length, map, slice_get, slice_index_or, Option, Some}
-use Rattle.std.specs.Prelude.{None, option_to_list, ⊤}
+use Rattle.std.specs.Prelude.{◌≡◌, ℕ, ◌-◌, ◌<◌, List, [], ◌∷◌, ◌++◌, length, map, slice_get, slice_index_or, Option}
+use Rattle.std.specs.Prelude.{Some}
+use Rattle.std.specs.Prelude.{None, option_to_list, Bool, true, false, ⊤}
 use Rattle.pas_typed.specs.Types.{PasType, Table}
 use Rattle.pas_typed.specs.Typed as typed
 use Rattle.pas_typed.specs.Typed.{Mode, Variable, Statement, Heading, Body, TypedProgram}
 use Rattle.pas_typed.specs.Shapes.{Shape, one_cell, Leads, shape_of}
-use Rattle.pas_typed.specs.Lawful.{IsOrdinal, IsLawfulStatement}
+use Rattle.pas_typed.specs.Lawful.{IsOrdinal, IsLawfulSlot, IsLawfulStatement}
 use Rattle.pas_meaning.specs.Outcome.{Run, Outcome, gives, ends, errs, Doing}
-use Rattle.pas_meaning.specs.Store.{Cell, own, refers, Reference, Store, cell_at}
-use Rattle.pas_meaning.specs.Run.{Entry, Doings}
+use Rattle.pas_meaning.specs.Store.{Datum, Cell, own, refers, Reference, Store, cell_at}
+use Rattle.pas_meaning.specs.Run.{Entry, Doings, Spot, part, window, Argument, copied, meant}
 use Rattle.pas_meaning.specs.Cells.{IsShaped}
 
 -- what is declared for a cell: a datum of a shape, or a reference to a part of this shape
@@ -64,6 +65,33 @@ pub record Stands (kinds : Kinds) (store : Store) : Type 0 where
   pub cells : (activation variable : ℕ) (kind : Kind) → kind_at kinds activation variable ≡ Some kind
       → Matches kinds activation kind (cell_at activation variable store)
 
+-- whether a place is the buffer of a file
+abbrev pub is_window : Spot → Bool
+is_window (part slot path) = false
+is_window (window slot type) = true
+
+-- a datum is of the shape of a type
+abbrev pub IsOfType : Table → PasType → Datum → Type 0
+IsOfType table type datum = IsShaped (shape_of table type) datum
+
+-- a place of a type with its checked indexes; and arguments for parameters
+module _ (program : TypedProgram) (variables : List Variable) where
+  abbrev pub IsSpot : PasType → Spot → Type 0
+  IsSpot type (part slot path) =
+      IsLawfulSlot program variables slot
+      × Leads (shape_of program.types slot.type) path (shape_of program.types type)
+  IsSpot type (window slot of_component) = (of_component ≡ type) × IsOrdinal program.types type
+
+  abbrev pub AreFor : List Variable → List Argument → Type 0
+  AreFor [] [] = ⊤
+  AreFor [] (argument ∷ arguments) = ⊥
+  AreFor (parameter ∷ parameters) [] = ⊥
+  AreFor (parameter ∷ parameters) (copied datum ∷ arguments) =
+      (parameter.mode ≡ typed.by_value) × IsOfType program.types parameter.type datum × AreFor parameters arguments
+  AreFor (parameter ∷ parameters) (meant spot ∷ arguments) =
+      (parameter.mode ≡ typed.by_name) × IsSpot parameter.type spot × (is_window spot ≡ false)
+      × AreFor parameters arguments
+
 -- what is done from each store that stands so leaves one that does, or these kinds then, and a value of which P holds
 abbrev pub Leaves : {A : Type 0} → Kinds → (A → Type 0) → Outcome Store A → Type 0
 Leaves kinds P (gives value run) = P value × Stands kinds run.store
@@ -74,7 +102,8 @@ pub record Keeps {A : Type 0} (kinds later : Kinds) (P : A → Type 0) (doing : 
   pub each : (run : Run Store) → Stands kinds run.store → Leaves later P (doing run)
 
 -- the kinds are those of the program and, at their end, of an activation with these variables and this result
-pub record Knows (program : TypedProgram) (variables : List Variable) (result : Option PasType) (kinds : Kinds) : Type 0 where
+pub record Knows (program : TypedProgram) (variables : List Variable) (result : Option PasType)
+    (kinds : Kinds) : Type 0 where
   pub some : 0 < length kinds
   pub globals : (number : ℕ) (variable : Variable) → slice_get program.globals number ≡ Some variable
       → kind_at kinds 0 number ≡ Some (kind_of program.types variable)

@@ -1,17 +1,21 @@
 -- The shape of a type of a lawful table, by what its row is.
-use Rattle.std.proofs.Common.{◌≡◌, ℕ, zero, suc, ◌+◌, ◌*◌, ◌<◌, ◌≤◌, List, [], ◌∷◌, ◌++◌, length, map, take, sum_by, Option, Some}
-use Rattle.std.proofs.Common.{None, All, IsSome, IsTrue, get_or, slice_get, slice_index_or, option_map, option_and_then, unwrap_or, arith, refl}
-use Rattle.std.proofs.Common.{sym, ap, ◌∙◌, subst, suc-mul, append_assoc, append-nil, ap₂, length-append, true}
+use Rattle.std.proofs.Common.{◌≡◌, ℕ, zero, suc, ◌+◌, ◌*◌, ◌<◌, List, [], ◌∷◌, ◌++◌, length, map, take, sum_by, Option}
+use Rattle.std.proofs.Common.{Some}
+use Rattle.std.proofs.Common.{None, All, IsSome, IsTrue, get_or, slice_get, slice_index_or, option_map, option_and_then}
+use Rattle.std.proofs.Common.{unwrap_or, arith, refl}
+use Rattle.std.proofs.Common.{sym, ap, ◌∙◌, subst, suc-mul, append_assoc, append-nil, ap₂, length-append}
 use Rattle.std.specs.Prelude.{⊤}
 use Rattle.std.proofs.Math.ListN.{get_or-map}
 use Rattle.std.proofs.lemmas.List.{get_or_append_left, get_or_push, map-append}
 use Rattle.std.proofs.lemmas.List.Sums.{sum_by-cons}
-use Rattle.std.proofs.lemmas.Option.{slice_get-map, unwrap_or-slice_get, option_and_then_some, same_Some, slice_get_within}
+use Rattle.std.proofs.lemmas.Option.{slice_get-map, unwrap_or-slice_get, option_and_then_some, same_Some}
+use Rattle.std.proofs.lemmas.Option.{slice_get_within}
 use Rattle.std.proofs.lemmas.Option.{get_or_from_slice_get}
 use Rattle.pas_typed.specs.Types as types
 use Rattle.pas_typed.specs.Types.{Range, Field, PasType, Structure, TableRow, Table, count_of, cells_of, cells_in, made}
-use Rattle.pas_typed.specs.Types.{range_of, component_of, elements_of, fields_of, structure_of, ArrayParts, elements_in, fields_in, range_in, component_in, is_component, is_byte_range}
-use Rattle.pas_typed.specs.Shapes.{Shape, one_cell, several, Shapes, so_many, all_shapes, size, total, count, shape_at}
+use Rattle.pas_typed.specs.Types.{range_of, component_of, elements_of, fields_of, structure_of, ArrayParts, elements_in}
+use Rattle.pas_typed.specs.Types.{fields_in, range_in, component_in, is_component, is_byte_range}
+use Rattle.pas_typed.specs.Shapes.{Shape, one_cell, several, so_many, all_shapes, size, total, count, shape_at}
 use Rattle.pas_typed.specs.Shapes.{cells_before, shape_by, shape_in, shapes_behind, shape_of, IsAmong, IsLawfulBehind}
 use Rattle.pas_typed.specs.Shapes.{AreMadeBehind, IsLawfulTable, shapes_in, Leads, offset}
 
@@ -96,7 +100,8 @@ agree_by rows shapes others (types.row number) agree among = agree.each number a
 
 agree_fields : (rows : ℕ) (shapes others : List Shape) (found : List Field) → Agree rows shapes others
     → All (λ field. IsAmong rows field.type) found
-    → map (λ (field : Field). shape_by shapes field.type) found ≡ map (λ (field : Field). shape_by others field.type) found
+    → map (λ (field : Field). shape_by shapes field.type) found
+    ≡ map (λ (field : Field). shape_by others field.type) found
 agree_fields rows shapes others [] agree among = refl
 agree_fields rows shapes others (field ∷ found) agree among =
     let first = agree_by rows shapes others field.type agree (among 0 field (omega arith)) in
@@ -202,9 +207,10 @@ module _ (table : Table) (type : PasType) (parts : ArrayParts) (made : IsLawfulT
   pub element_leads : (number : ℕ) → number < count_of parts.indexes
       → Leads (shape_of table type) (number ∷ []) (shape_of table parts.element)
   element_leads number less =
-      subst (λ shape. Leads shape (number ∷ []) (shape_of table parts.element)) (sym shape_of-array)
-      (omega (arith, less, count-so_many (count_of parts.indexes) (shape_of table parts.element)),
-      shape_at-so_many (count_of parts.indexes) number (shape_of table parts.element) less)
+      subst (λ shape. Leads shape (number ∷ []) (shape_of table parts.element)) (sym shape_of-array) (
+        omega (arith, less, count-so_many (count_of parts.indexes) (shape_of table parts.element)),
+        shape_at-so_many (count_of parts.indexes) number (shape_of table parts.element) less,
+      )
 
   pub element_begins : (number : ℕ) → number < count_of parts.indexes
       → offset (shape_of table type) (number ∷ []) ≡ number * size (shape_of table parts.element)
@@ -236,11 +242,12 @@ module _ (table : Table) (type : PasType) (found : List Field) (made : IsLawfulT
   field_leads number field there =
       let shapes = map (λ (field : Field). shape_of table field.type) found in
       let is_there : slice_get shapes number ≡ Some (shape_of table field.type) =
-          slice_get-map (λ (field : Field). shape_of table field.type) found number
-          ∙ ap (option_map (λ (field : Field). shape_of table field.type)) there in
-      subst (λ shape. Leads shape (number ∷ []) (shape_of table field.type)) (sym shape_of-fields)
-      (omega (arith, slice_get_within shapes number _ is_there, count-all shapes),
-      shape_at-all shapes number ∙ get_or_from_slice_get shapes number _ one_cell is_there)
+      slice_get-map (λ (field : Field). shape_of table field.type) found number
+      ∙ ap (option_map (λ (field : Field). shape_of table field.type)) there in
+      subst (λ shape. Leads shape (number ∷ []) (shape_of table field.type)) (sym shape_of-fields) (
+        omega (arith, slice_get_within shapes number _ is_there, count-all shapes),
+        shape_at-all shapes number ∙ get_or_from_slice_get shapes number _ one_cell is_there,
+      )
 
   pub field_begins : (number : ℕ)
       → offset (shape_of table type) (number ∷ [])
@@ -251,7 +258,8 @@ module _ (table : Table) (type : PasType) (found : List Field) (made : IsLawfulT
 
 -- a type has as many cells as its shape
 size_by : (shapes : List Shape) (earlier : Table) (type : PasType)
-    → map size shapes ≡ map (λ (row : TableRow). row.cells) earlier → size (shape_by shapes type) ≡ cells_of earlier type
+    → map size shapes ≡ map (λ (row : TableRow). row.cells) earlier
+    → size (shape_by shapes type) ≡ cells_of earlier type
 size_by shapes earlier (types.whole base) same = refl
 size_by shapes earlier types.text same = refl
 size_by shapes earlier (types.row number) same =
@@ -303,10 +311,13 @@ made_behind : (earlier table : Table) (row : TableRow) → AreMadeBehind earlier
 made_behind earlier [] row made lawful cells =
     subst (λ rows. IsLawfulBehind rows row.structure × (row.cells ≡ cells_in rows row.structure) × ⊤)
     (append-nil earlier) (lawful, cells, tt)
-made_behind earlier (first ∷ table) row made lawful cells =
-    (made.0, made.1, made_behind (earlier ++ first ∷ []) table row made.2
-    (subst (λ rows. IsLawfulBehind rows row.structure) (sym (append_assoc earlier (first ∷ []) table)) lawful)
-    (cells ∙ ap (λ rows. cells_in rows row.structure) (sym (append_assoc earlier (first ∷ []) table))))
+made_behind earlier (first ∷ table) row made lawful cells = (
+  made.0,
+  made.1,
+  made_behind (earlier ++ first ∷ []) table row made.2
+      (subst (λ rows. IsLawfulBehind rows row.structure) (sym (append_assoc earlier (first ∷ []) table)) lawful)
+      (cells ∙ ap (λ rows. cells_in rows row.structure) (sym (append_assoc earlier (first ∷ []) table))),
+)
 
 pub lawful-made : (table : Table) (structure : Structure) → IsLawfulTable table → IsLawfulBehind table structure
     → IsLawfulTable (made table structure).table
@@ -330,7 +341,8 @@ ordinal_stays table number types.text is = is
 ordinal_stays table number (types.row row) is = stays table number row is
   where
     stays : (table : Table) (number row : ℕ)
-        → IsSome (option_and_then range_in (option_map (λ (found : TableRow). found.structure) (slice_get (take number table) row)))
+        → IsSome (option_and_then range_in (option_map (λ (found : TableRow). found.structure)
+        (slice_get (take number table) row)))
         → IsSome (option_and_then range_in (option_map (λ (found : TableRow). found.structure) (slice_get table row)))
     stays table zero row is = absurd (cc)
     stays [] (suc number) row is = is

@@ -1,7 +1,7 @@
 -- Shapes of types: how many cells a variable has, and where its parts begin. They are made for the rows of a table
 -- from the first one on, as rows refer to earlier ones. This project's own.
-use Rattle.std.specs.Prelude.{◌≡◌, ℕ, zero, suc, ◌+◌, ◌<◌, List, [], ◌∷◌, ◌++◌, length, map, slice_get, slice_index_or}
-use Rattle.std.specs.Prelude.{Option, option_map, option_and_then, ⊤}
+use Rattle.std.specs.Prelude.{◌≡◌, ℕ, zero, suc, ◌+◌, ◌<◌, List, [], ◌∷◌, ◌++◌, length, map, slice_index_or}
+use Rattle.std.specs.Prelude.{⊤}
 use Rattle.std.specs.Bool.{IsTrue}
 use Rattle.std.specs.List.{All}
 use Rattle.pas_typed.specs.Types as types
