@@ -104,7 +104,7 @@ module _ (program : TypedProgram) (lawful : IsLawful program) where
           (cell_of store (run.meant spot))
       meant_matches type (run.part slot path) is no_window =
           let aims = aims_along kinds (home_of slot store) (shape_of program.types slot.type)
-              (shape_of program.types type)
+          (shape_of program.types type)
           path (slot_aims program lawful variables result kinds knows slot store stands is.0) is.1 in (
             aims_more kinds (row ∷ []) (along (home_of slot store) path) (shape_of program.types type) aims,
             kind_row kinds _ _ _ aims.there,

@@ -11,3 +11,4 @@ pub mod CallKeeps
 pub mod ValueKeeps
 pub mod RunKeeps
 pub mod StartKeeps
+pub mod LawfulRows

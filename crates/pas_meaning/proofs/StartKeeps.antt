@@ -44,7 +44,7 @@ module _ (program : TypedProgram) (lawful : IsLawful program) where
       let here : slice_get program.globals number ≡ Some found =
       ap (slice_get program.globals) (omega arith) ∙ there 0 found refl in (
         subst (λ mode. Matches kinds 0 (kind_by mode (shape_of program.types found.type))
-        (global_cell program number found))
+            (global_cell program number found))
             (sym (all_get (λ (found : Variable). found.mode ≡ typed.declared) program.globals number found
             lawful.globals here))
             (global_shaped number found here (position (λ other. other == number) program.files) refl),

@@ -105,7 +105,7 @@ module _ (program : TypedProgram) (lawful : IsLawful program) (limit : Option �
         keeps_bind (keeps_checked (element range) (keeps_value index is.1) (λ datum sound. element_below range datum))
         (λ number less. keeps_pure (run.along_part spot number) (
           element_spot program lawful variables result kinds knows
-          (type_of_place place) type range spot number spot_is.0
+              (type_of_place place) type range spot number spot_is.0
               is.2 less,
           refl,
         )))
