@@ -1,8 +1,7 @@
 -- The variables of a lawful program keep their shapes: what is declared for each, and that it stands so. This
 -- project's own.
 use Rattle.std.specs.Prelude.{◌≡◌, ℕ, ◌-◌, ◌<◌, List, [], ◌∷◌, ◌++◌, length, map, slice_get, slice_index_or, Option}
-use Rattle.std.specs.Prelude.{Some}
-use Rattle.std.specs.Prelude.{None, option_to_list, Bool, true, false, ⊤}
+use Rattle.std.specs.Prelude.{Some, None, option_to_list, Bool, true, false, ⊤}
 use Rattle.pas_typed.specs.Types.{PasType, Table}
 use Rattle.pas_typed.specs.Typed as typed
 use Rattle.pas_typed.specs.Typed.{Mode, Variable, Statement, Heading, Body, TypedProgram}
@@ -58,6 +57,7 @@ Matches kinds activation (named shape) (own datum) = ⊥
 Matches kinds activation (named shape) (refers reference) =
     Aims kinds reference shape × (reference.activation < activation)
 
+-- a store stands by these kinds
 pub record Stands (kinds : Kinds) (store : Store) : Type 0 where
   pub rows : length store ≡ length kinds
   pub row : (activation : ℕ)
@@ -92,12 +92,13 @@ module _ (program : TypedProgram) (variables : List Variable) where
       (parameter.mode ≡ typed.by_name) × IsSpot parameter.type spot × (is_window spot ≡ false)
       × AreFor parameters arguments
 
--- what is done from each store that stands so leaves one that does, or these kinds then, and a value of which P holds
+-- a run that goes on leaves a store that stands by these kinds, and a value of which P holds
 abbrev pub Leaves : {A : Type 0} → Kinds → (A → Type 0) → Outcome Store A → Type 0
 Leaves kinds P (gives value run) = P value × Stands kinds run.store
 Leaves kinds P (ends end world) = ⊤
 Leaves kinds P (errs kind world) = ⊤
 
+-- what is done does so from each store that stands by the kinds before it
 pub record Keeps {A : Type 0} (kinds later : Kinds) (P : A → Type 0) (doing : Doing Store A) : Type 0 where
   pub each : (run : Run Store) → Stands kinds run.store → Leaves later P (doing run)
 
