@@ -3,3 +3,12 @@ pub mod GoesLemmas
 pub mod BoundLemmas
 pub mod DepthLemmas
 pub mod TrialLemmas
+pub mod CellLemmas
+pub mod StandingLemmas
+pub mod KeepsLemmas
+pub mod PlaceKeeps
+pub mod CallKeeps
+pub mod ValueKeeps
+pub mod RunKeeps
+pub mod StartKeeps
+pub mod LawfulRows

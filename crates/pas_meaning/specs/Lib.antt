@@ -4,9 +4,11 @@ pub mod Fields
 pub mod Outcome
 pub mod FileSteps
 pub mod Store
+pub mod Cells
 pub mod Arithmetic
 pub mod Operands
 pub mod Run
 pub mod Trial
 pub mod Laws
+pub mod Standing
 pub mod TrialRows

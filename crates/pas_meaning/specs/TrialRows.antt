@@ -141,7 +141,7 @@ abbrev list_of : List Statement → Statements
 list_of [] = typed.no_statements
 list_of (s ∷ statements) = typed.item None s (list_of statements)
 
-abbrev index_behind_right_side : TypedProgram
+abbrev pub index_behind_right_side : TypedProgram
 index_behind_right_side = record (program_of (list_of (
     typed.assigns (typed.slot slot_i) (number 1)
     ∷ typed.assigns (element_at (number 1)) (number 0)
@@ -183,7 +183,7 @@ the_second_output = typed.slot (record { home = typed.global; number = 1; mode =
 abbrev the_c : Place
 the_c = typed.slot (record { home = typed.global; number = 2; mode = typed.declared; type = whole char })
 
-abbrev copying : TypedProgram
+abbrev pub copying : TypedProgram
 copying = record (program_of (only (typed.while (typed.negated (typed.tested typed.eof the_input)) (list_of (
     typed.reads the_input (the_c ∷ [])
     ∷ typed.writes the_second_output (typed.char_item (typed.read the_c) None ∷ []) ∷ []))))) {

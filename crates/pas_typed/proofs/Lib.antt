@@ -4,3 +4,5 @@ pub mod LongerTables
 pub mod OrderLemmas
 pub mod ValueViews
 pub mod StatementViews
+pub mod ShapeLemmas
+pub mod GrowthLemmas

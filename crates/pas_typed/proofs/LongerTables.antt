@@ -9,13 +9,9 @@ use Rattle.pas_typed.specs.Types.{Base, PasType, whole, text, row, Structure, Ta
 use Rattle.pas_typed.specs.Types.{range_in, range_of, base_of, is_based_on, is_of, component_in, component_of}
 use Rattle.pas_typed.specs.Types.{elements_in, elements_of, fields_in, fields_of, cells_of, same_type}
 use Rattle.pas_typed.specs.Types.{are_compatible_by, are_compatible, cells_in, made}
+use Rattle.pas_typed.specs.Shapes.{IsAmong}
 use Rattle.pas_typed.specs.TypeViews.{structure_view, table_view}
 use Rattle.pas_typed.proofs.TableLemmas.{length-table_of, table_view-push}
-
--- whether a type is a required one or one of the first rows
-abbrev pub IsAmong : ℕ → PasType → Type 0
-IsAmong count (row number) = number < count
-IsAmong count found = Unit {0}
 
 pub IsAmong-more : (count most : ℕ) (found : PasType) → count ≤ most → IsAmong count found → IsAmong most found
 IsAmong-more count most (whole base) less there = tt

@@ -3,3 +3,5 @@ pub mod Typed
 pub mod TypeOf
 pub mod TypeViews
 pub mod TypedViews
+pub mod Shapes
+pub mod Lawful
