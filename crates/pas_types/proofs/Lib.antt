@@ -8,3 +8,5 @@ pub mod RoutinesAsMany
 pub mod CheckLemmas
 pub mod EndLemmas
 pub mod PartLemmas
+pub mod AnswerLemmas
+pub mod SettleLemmas
