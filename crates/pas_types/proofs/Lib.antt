@@ -10,3 +10,5 @@ pub mod EndLemmas
 pub mod PartLemmas
 pub mod AnswerLemmas
 pub mod SettleLemmas
+pub mod LabelLemmas
+pub mod LabelSeen

@@ -2,6 +2,7 @@
 #![tactic(auto)]
 
 mod judged;
+mod labels;
 mod limits;
 mod stop;
 
