@@ -258,3 +258,12 @@ left_both one other labels =
 pub not_some : {A : Type 0} (found : Option A) → ((x : A) → found ≡ Some x → ⊥) → found ≡ None
 not_some None h = refl
 not_some (Some x) h = absurd (h x refl)
+
+-- what is found nowhere
+pub not_had : (label : ℕ) (labels : Known) → has_label (numbers_of labels) label ≡ false
+    → lookup (nat_eq label) labels ≡ None
+not_had label labels h = none_of (lookup (nat_eq label) labels) (found_has label labels ∙ h)
+  where
+    none_of : (found : Option Label) → is_some found ≡ false → found ≡ None
+    none_of None e = refl
+    none_of (Some label) e = cc

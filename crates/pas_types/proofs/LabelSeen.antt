@@ -1,7 +1,8 @@
 -- The labels of the code's lists, as the definition has them.
 use Rattle.std.proofs.Common.{◌≡◌, refl, sym, ap, ◌∙◌, ℕ, ◌+◌, ◌<◌, ◌≤◌, List, [], ◌∷◌, ◌++◌, map, length, take, get_or}
 use Rattle.std.proofs.lemmas.List.{take_more, take_all}
-use Rattle.std.specs.Prelude.{option_to_list}
+use Rattle.std.proofs.Common.{suc, ◌-◌, zero, arith, Option, Some, None}
+use Rattle.std.specs.Prelude.{option_to_list, slice_get}
 use Rattle.pas_syntax.specs.declared.tree.Statements as code_statements
 use Rattle.pas_syntax.specs.declared.tree.MoreStatement as code_more_statement
 use Rattle.pas_syntax.specs.declared.tree.Others.TheViews.{out-Statements, out-MoreStatement}
@@ -12,7 +13,7 @@ use Rattle.pas_syntax.specs.Views.{in_turn}
 use Rattle.pas_syntax.specs.ProgramViews.{Arm, plain_step, others_step, statement_step, compound_step, element_step}
 use Rattle.pas_syntax.specs.ProgramViews.{elements_step, more_element_step, more_statement_step, statements_step}
 use Rattle.pas_syntax.specs.ProgramViews.{statement_in, statements_in, more_statement_in}
-use Rattle.pas_types.specs.Labels.{own_label, labels_of_list}
+use Rattle.pas_types.specs.Labels.{own_label, labels_of_list, label_on_empty, label_at_end}
 use Rattle.pas_types.specs.Statements.{label_of}
 
 pub own_is : (s : Statement) → option_to_list (label_of s) ≡ own_label s
@@ -76,3 +77,57 @@ taken_more xs i x within is = take_more xs i x within ∙ ap (λ item. take i xs
 
 pub taken_all : {A : Type 0} (xs : List A) (i : ℕ) → length xs ≤ i → take i xs ≡ xs
 taken_all xs i h = take_all i xs h
+
+-- the label at the end of a list
+module _ (spellings : List ℕ) where
+  last_seen : (start : Statements) (more : List code_more_statement.MoreStatement) (i : ℕ)
+      (last : code_more_statement.MoreStatement) → i + 1 ≡ length more → Some last ≡ slice_get more i
+      → label_at_end (in_turn start (map (more_statement_in spellings) more))
+      ≡ label_on_empty (statement_in spellings (out-MoreStatement last).statement)
+  last_seen start [] i last end is = absurd (omega (arith, end))
+  last_seen start (first ∷ []) zero last end is =
+      let same : first ≡ last = cc in
+      ap (λ (step : Statements → Statements). label_at_end (step start)) (more_seen spellings first)
+      ∙ ap (λ (next : code_more_statement.MoreStatement).
+      label_on_empty (statement_in spellings (out-MoreStatement next).statement)) same
+  last_seen start (first ∷ []) (suc i) last end is = absurd (omega (arith, end))
+  last_seen start (first ∷ (second ∷ more)) zero last end is = absurd (omega (arith, end))
+  last_seen start (first ∷ (second ∷ more)) (suc i) last end is =
+      last_seen (more_statement_in spellings first start) (second ∷ more) i last (omega (arith, end)) is
+
+  pub end_seen : (list : code_statements.Statements) (last : code_more_statement.MoreStatement)
+      → Some last ≡ slice_get (out-Statements list).more (length (out-Statements list).more - 1)
+      → label_at_end (statements_in spellings list)
+      ≡ label_on_empty (statement_in spellings (out-MoreStatement last).statement)
+  end_seen list last is =
+      ap label_at_end (list_seen spellings list)
+      ∙ last_seen (tree.first_statement (statement_in spellings (out-Statements list).first))
+      (out-Statements list).more (length (out-Statements list).more - 1) last
+      (some_last (out-Statements list).more last is) is
+    where
+      some_last : (xs : List code_more_statement.MoreStatement) (last : code_more_statement.MoreStatement)
+          → Some last ≡ slice_get xs (length xs - 1) → length xs - 1 + 1 ≡ length xs
+      some_last [] last is = absurd (some_not_none is)
+        where
+          some_not_none : Some last ≡ None → ⊥
+          some_not_none e = cc
+      some_last (x ∷ xs) last is = omega arith
+
+  pub end_seen_first : (list : code_statements.Statements)
+      → None ≡ slice_get (out-Statements list).more (length (out-Statements list).more - 1)
+      → label_at_end (statements_in spellings list)
+      ≡ label_on_empty (statement_in spellings (out-Statements list).first)
+  end_seen_first list is =
+      ap label_at_end (list_seen spellings list)
+      ∙ ap (λ (more : List code_more_statement.MoreStatement).
+      label_at_end (in_turn (tree.first_statement (statement_in spellings (out-Statements list).first))
+      (map (more_statement_in spellings) more))) (no_last (out-Statements list).more is)
+    where
+      at_least : (xs : List code_more_statement.MoreStatement) (i : ℕ) → i < length xs → None ≡ slice_get xs i → ⊥
+      at_least [] i h e = omega (arith, h)
+      at_least (x ∷ xs) zero h e = cc
+      at_least (x ∷ xs) (suc i) h e = at_least xs i (omega (arith, h)) e
+
+      no_last : (xs : List code_more_statement.MoreStatement) → None ≡ slice_get xs (length xs - 1) → xs ≡ []
+      no_last [] e = refl
+      no_last (x ∷ xs) e = absurd (at_least (x ∷ xs) (length (x ∷ xs) - 1) (omega arith) e)

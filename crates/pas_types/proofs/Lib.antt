@@ -12,3 +12,5 @@ pub mod AnswerLemmas
 pub mod SettleLemmas
 pub mod LabelLemmas
 pub mod LabelSeen
+pub mod LabelRules
+pub mod NumberLemmas

@@ -3,3 +3,4 @@ pub mod Ends
 pub mod Stopping
 pub mod Answers
 pub mod LabelViews
+pub mod LabelAnswers

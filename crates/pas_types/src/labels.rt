@@ -2,24 +2,27 @@
 ghost use Rattle.std.specs.Prelude.{◌≡◌, ℕ, List, [], ◌∷◌, ◌++◌, IfOk, OnOk, OnErr, nat_eq, option_to_list};
 ghost use Rattle.std.specs.List.{IsDistinct};
 ghost use Rattle.std.specs.Map.{lookup};
-ghost use Rattle.pas_syntax.specs.Views.{if_there};
-ghost use Rattle.pas_syntax.specs.ProgramViews.{statement_in, statements_in};
+ghost use Rattle.std.specs.Option.{option_copied};
+ghost use Rattle.pas_syntax.specs.Views.{numeral_in, separated_in, if_there};
+ghost use Rattle.pas_syntax.specs.Words.{number_at};
+ghost use Rattle.pas_syntax.specs.ProgramViews.{statement_in, statements_in, labels_in};
 ghost use Rattle.pas_types.specs.Labels as rule;
 ghost use Rattle.pas_types.specs.Labels.{has_label, labels_of_list};
 ghost use Rattle.pas_types.specs.Statements as statement_rule;
 ghost use Rattle.pas_types.specs.inner.Ends.{lowest_of};
-ghost use Rattle.pas_types.specs.inner.Answers.{stands_at};
-ghost use Rattle.pas_types.specs.inner.LabelViews.{spot_in, numbers_of, put_label, entered, left, stood, standing_faults, is_around_in, all_stand_in};
+ghost use Rattle.pas_types.specs.inner.Answers.{stands_at, Settles};
+ghost use Rattle.pas_types.specs.inner.LabelViews.{spot_in, numbers_of, put_label, entered, left, stood, standing_faults, is_around_in, all_stand_in, goto_in, goto_by, program_by, main_by};
+ghost use Rattle.pas_types.specs.inner.LabelAnswers.{fresh_label, IsNew, Numbers, Declares};
 
 use crate::limits::GREATEST_LABEL;
 use crate::stop::{Stop, demand, fault};
 use indexmap::IndexMap;
-use pas_syntax::tree::{Numeral, Plain, Statement, Statements};
+use pas_syntax::tree::{Labels as LabelPart, Numeral, Plain, Separated, Statement, Statements};
 use sqlite_items::Items;
 use std::alloc::{AllocError, Global};
 use std::marker::Model;
 use wb_base::OutOfMemory;
-use wb_base::faults::{CONSTANT_OUT_OF_RANGE, WRONG_LABEL};
+use wb_base::faults::{CONSTANT_OUT_OF_RANGE, DUPLICATE_NAME, WRONG_GOTO, WRONG_LABEL};
 
 // What is known of a label of a block at a place in it.
 #[derive(Clone, Copy)]
@@ -53,6 +56,43 @@ impl Labels {
         Labels {
             labels: IndexMap::new(alloc),
         }
+    }
+
+    // The labels that a part of the declarations declares.
+    pub(crate) fn declared(alloc: Global, part: Option<&LabelPart>) -> Result<Labels, Stop>
+        ensures { (spellings : List ℕ) → Declares (if_there (labels_in spellings) (option_copied part.entry)) result }
+    {
+        match part {
+            Some(part) => Labels::numbered(alloc, &part.numbers),
+            None => Ok(Labels::new(alloc)),
+        }
+    }
+
+    // The labels with these numbers.
+    fn numbered(alloc: Global, numbers: &Separated<Numeral>) -> Result<Labels, Stop>
+        ensures { Numbers (separated_in numeral_in numbers.now) result }
+    {
+        let mut labels = Labels::new(alloc);
+        labels.declare(numbers.first)?;
+        for behind in numbers.more.as_slice() {
+            labels.declare(behind.item)?;
+        }
+        Ok(labels)
+    }
+
+    // Declares a label.
+    fn declare(&mut self, numeral: Numeral) -> Result<(), Stop>
+        ensures answer { IsNew self.old (numeral_in numeral) result }
+        ensures ok { OnOk result (self.new ≡ self.old ++ fresh_label numeral.value ∷ []) }
+    {
+        demand(!self.has(numeral.value), DUPLICATE_NAME, numeral.line)?;
+        demand(numeral.value <= GREATEST_LABEL, CONSTANT_OUT_OF_RANGE, numeral.line)?;
+        let label = Label {
+            stands: false,
+            around: 0,
+        };
+        self.labels.insert(numeral.value, label)?;
+        Ok(())
     }
 
     // Whether a label is declared.
@@ -190,11 +230,10 @@ pub(crate) enum Spot {
 pub(crate) fn label_at_end(list: &Statements) -> Option<u32>
     ensures { (spellings : List ℕ) → result ≡ rule.label_at_end (statements_in spellings list.now) }
 {
-    let last = match list.more.as_slice().last() {
-        Some(more) => &more.statement,
-        None => &list.first,
-    };
-    label_on_empty(last)
+    match list.more.as_slice().last() {
+        Some(more) => label_on_empty(&more.statement),
+        None => label_on_empty(&list.first),
+    }
 }
 
 // The label of a statement, if that is empty.
@@ -217,5 +256,61 @@ fn label_of(statement: &Statement) -> Option<u32>
     match statement {
         Statement::Labelled(label, _) => Some(label.numeral.value),
         Statement::Unlabelled(_) => None,
+    }
+}
+
+// Where a goto leads: to a label of its block, or to the last label of the program, which ends it with this status.
+#[derive(Clone, Copy, Debug, PartialEq, Eq)]
+pub(crate) enum Goto {
+    Label(u32),
+    Last(u32),
+}
+
+// What a goto to a label means, in a routine, of which the labels hide those of the program, or in the program.
+pub(crate) fn goto_of(
+    program: &Labels,
+    last: Option<u32>,
+    routine: Option<&Labels>,
+    numeral: Numeral,
+) -> Result<Goto, Stop>
+    ensures { Settles (number_at 0 (numeral_in numeral) ∷ [])
+        (goto_by program.now last (option_copied routine.entry) numeral.value) goto_in result }
+{
+    demand(numeral.value <= GREATEST_LABEL, CONSTANT_OUT_OF_RANGE, numeral.line)?;
+    match routine {
+        Some(routine) if routine.has(numeral.value) => to_list(routine, numeral),
+        Some(_) => to_program(program, last, numeral),
+        None => in_program(program, last, numeral),
+    }
+}
+
+// What a goto to a label of its own block means: that must stand in a list around it.
+fn to_list(labels: &Labels, numeral: Numeral) -> Result<Goto, Stop>
+    ensures { Settles (number_at 0 (numeral_in numeral) ∷ [])
+        (rule.to_list (is_around_in labels.now numeral.value) numeral.value) goto_in result }
+{
+    demand(labels.is_around(numeral.value), WRONG_GOTO, numeral.line)?;
+    Ok(Goto::Label(numeral.value))
+}
+
+// What a goto from a routine to a label of the program means: only the last one can be reached.
+fn to_program(program: &Labels, last: Option<u32>, numeral: Numeral) -> Result<Goto, Stop>
+    ensures { Settles (number_at 0 (numeral_in numeral) ∷ []) (program_by program.now last numeral.value) goto_in
+        result }
+{
+    demand(program.has(numeral.value), WRONG_LABEL, numeral.line)?;
+    demand(last == Some(numeral.value), WRONG_GOTO, numeral.line)?;
+    Ok(Goto::Last(1))
+}
+
+// What a goto in the program means.
+fn in_program(program: &Labels, last: Option<u32>, numeral: Numeral) -> Result<Goto, Stop>
+    ensures { Settles (number_at 0 (numeral_in numeral) ∷ []) (main_by program.now last numeral.value) goto_in result }
+{
+    demand(program.has(numeral.value), WRONG_LABEL, numeral.line)?;
+    if last == Some(numeral.value) {
+        Ok(Goto::Last(0))
+    } else {
+        to_list(program, numeral)
     }
 }

@@ -3,14 +3,17 @@ use Rattle.std.specs.Prelude.{ℕ, ◌==◌, ◌&&◌, ◌||◌, ◌+◌, ◌-�
 use Rattle.std.specs.Prelude.{List, [], ◌∷◌, map, Option, Some, None}
 use Rattle.std.specs.List.{list_all}
 use Rattle.std.specs.Map.{lookup}
-use Rattle.wb_base.specs.declared.faults.TheConstants.{CONSTANT_OUT_OF_RANGE, WRONG_LABEL}
+use Rattle.wb_base.specs.declared.faults.TheConstants.{CONSTANT_OUT_OF_RANGE, WRONG_LABEL, WRONG_GOTO}
 use Rattle.pas_tokens.specs.Cutting.{Wrong, wrong}
 use Rattle.pas_types.specs.declared.limits.TheConstants.{GREATEST_LABEL}
 use Rattle.pas_types.specs.declared.labels.Label.{Label}
 use Rattle.pas_types.specs.declared.labels.Spot.{Spot as CodeSpot}
 use Rattle.pas_types.specs.declared.labels.Spot.TheVariants as code
-use Rattle.pas_types.specs.Marks.{unless}
-use Rattle.pas_types.specs.Labels.{has_label, Spot, in_list, elsewhere, is_in_list}
+use Rattle.pas_types.specs.declared.labels.Goto.{Goto}
+use Rattle.pas_types.specs.declared.labels.Goto.TheVariants as goto
+use Rattle.pas_typed.specs.Typed as typed
+use Rattle.pas_types.specs.Marks.{unless, Judged, means, refuses}
+use Rattle.pas_types.specs.Labels.{has_label, Spot, in_list, elsewhere, is_in_list, is_last, to_list}
 
 abbrev pub spot_in : CodeSpot → Spot
 spot_in code.InList = in_list
@@ -79,3 +82,32 @@ abbrev pub standing_faults : Known → Spot → ℕ → List Wrong
 standing_faults labels spot label =
     if nat_lt GREATEST_LABEL label then wrong CONSTANT_OUT_OF_RANGE ∷ []
     else unless (is_in_list spot && may_stand labels label) (wrong WRONG_LABEL)
+
+-- a goto as the definition has it
+abbrev pub goto_in : Goto → typed.Statement
+goto_in (goto.Label label) = typed.goto label
+goto_in (goto.Last status) = typed.goto_last status
+
+-- a goto in the main block, one from a routine to the program, and one in either, by what is known of the labels
+abbrev pub main_by : Known → Option ℕ → ℕ → Judged typed.Statement
+main_by program last label =
+    if has_label (numbers_of program) label
+    then if is_last last label then means (typed.goto_last 0) else to_list (is_around_in program label) label
+    else refuses (wrong WRONG_LABEL)
+
+abbrev pub program_by : Known → Option ℕ → ℕ → Judged typed.Statement
+program_by program last label =
+    if has_label (numbers_of program) label
+    then if is_last last label then means (typed.goto_last 1) else refuses (wrong WRONG_GOTO)
+    else refuses (wrong WRONG_LABEL)
+
+abbrev pub block_by : Known → Option ℕ → Option Known → ℕ → Judged typed.Statement
+block_by program last None label = main_by program last label
+block_by program last (Some routine) label =
+    if has_label (numbers_of routine) label then to_list (is_around_in routine label) label
+    else program_by program last label
+
+abbrev pub goto_by : Known → Option ℕ → Option Known → ℕ → Judged typed.Statement
+goto_by program last routine label =
+    if nat_lt GREATEST_LABEL label then refuses (wrong CONSTANT_OUT_OF_RANGE)
+    else block_by program last routine label
