@@ -1,6 +1,6 @@
 -- What is known of labels, as it changes.
 use Rattle.std.proofs.Common.{◌≡◌, refl, sym, ap, subst, ◌∙◌, ℕ, suc, ◌+◌, ◌-◌, arith, Bool, true, false, List, [], ◌∷◌}
-use Rattle.std.proofs.Common.{◌++◌, length, map, Option, Some, None}
+use Rattle.std.proofs.Common.{◌++◌, length, map, Option, Some, None, Ok}
 use Rattle.std.specs.Prelude.{◌==◌, ◌&&◌, ◌||◌, not, nat_eq, nat_lt, if◌then◌else◌, cond, position, is_some}
 use Rattle.std.specs.List.{list_any, list_all, AllByRecursion}
 use Rattle.std.specs.List.{IsDistinct}
@@ -11,6 +11,7 @@ use Rattle.indexmap.specs.IndexMap.{insert_entry, set_value_at}
 use Rattle.indexmap.proofs.MapLemmas.{insert_entry-first, Found-position}
 use Rattle.pas_types.specs.declared.labels.Label.{Label}
 use Rattle.pas_types.specs.Labels.{has_label}
+use Rattle.pas_types.specs.inner.Stopping.{demanded}
 use Rattle.pas_types.specs.inner.LabelViews.{Known, numbers_of, times, label_at, known_labels, changed_at, put_label}
 use Rattle.pas_types.specs.inner.LabelViews.{entered, left}
 use Rattle.pas_types.specs.inner.LabelViews.{stood}
@@ -267,3 +268,12 @@ not_had label labels h = none_of (lookup (nat_eq label) labels) (found_has label
     none_of : (found : Option Label) → is_some found ≡ false → found ≡ None
     none_of None e = refl
     none_of (Some label) e = cc
+
+-- what was demanded holds
+pub demanded_holds : (holds : Bool) (code line : ℕ) (done : Unit {0}) → demanded holds code line ≡ Ok done → holds ≡ true
+demanded_holds true code line done is = refl
+demanded_holds false code line done is = cc
+
+pub not_true : (holds : Bool) → not holds ≡ true → holds ≡ false
+not_true true is = sym is
+not_true false is = refl

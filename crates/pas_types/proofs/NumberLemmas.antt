@@ -1,9 +1,12 @@
 -- Labels that are declared one behind another.
 use Rattle.std.proofs.Common.{◌≡◌, refl, sym, ap, subst, ◌∙◌, ℕ, ◌+◌, ◌<◌, arith, false, List, [], ◌∷◌, ◌++◌, length}
-use Rattle.std.proofs.Common.{map, take, drop, get_or, Option, Some, None, Result, Ok, Err}
+use Rattle.std.proofs.Common.{zero, suc, ◌≤◌, map, take, drop, get_or, Option, Some, None, Result, Ok, Err}
 use Rattle.std.specs.Prelude.{flat_map, ⊤}
-use Rattle.std.proofs.lemmas.List.{append_assoc}
+use Rattle.std.proofs.lemmas.List.{append_assoc, map-append, take_more, take_all}
 use Rattle.pas_tokens.specs.declared.kinds.Kind.TheVariants as k
+use Rattle.pas_syntax.specs.declared.tree.Numeral.{Numeral as CodeNumeral}
+use Rattle.pas_syntax.specs.declared.tree.Behind.{Behind as CodeBehind}
+use Rattle.pas_syntax.specs.Views.{numeral_in, behind_in}
 use Rattle.pas_syntax.specs.Tree.{Numeral, Behind, Separated, Labels}
 use Rattle.pas_syntax.specs.Words.{Word, at, number_at, separated, words_if, labels_words}
 use Rattle.pas_types.specs.declared.stop.Stop.{Stop}
@@ -17,7 +20,7 @@ use Rattle.pas_types.proofs.AsMany.{AsMany, one, next_word, behind_word, before_
 use Rattle.pas_types.proofs.SettleLemmas.{quiet_behind, quiet_word, quiet_alone, shows_front, shows_behind, shows_alone}
 use Rattle.pas_types.proofs.LabelRules.{numbers_known}
 
-abbrev items : List (Behind Numeral) → List Numeral
+abbrev pub items : List (Behind Numeral) → List Numeral
 items more = map (λ behind. behind.item) more
 
 abbrev pub values : List Numeral → List ℕ
@@ -41,9 +44,11 @@ new_push seen [] label h is = (ap (λ (before : List ℕ). new_label before labe
     append_nothing : (xs : List ℕ) → xs ++ [] ≡ xs
     append_nothing [] = refl
     append_nothing (x ∷ xs) = ap (λ rest. x ∷ rest) (append_nothing xs)
-new_push seen (first ∷ labels) label h is =
-    (h.0, new_push (seen ++ first ∷ []) labels label h.1
-    (ap (λ (before : List ℕ). new_label before label) (append_assoc seen (first ∷ []) labels) ∙ is))
+new_push seen (first ∷ labels) label h is = (
+  h.0,
+  new_push (seen ++ first ∷ []) labels label h.1
+      (ap (λ (before : List ℕ). new_label before label) (append_assoc seen (first ∷ []) labels) ∙ is),
+)
 
 -- words and marks
 rest_many : (seen : List ℕ) (numeral : Numeral) (more : List (Behind Numeral))
@@ -120,7 +125,7 @@ pub record SoFar (first : Numeral) (before : List (Behind Numeral)) (labels : Kn
   pub known : labels ≡ known_labels (first.value ∷ values (items before)) [] []
   pub new : AreNew [] (first.value ∷ values (items before))
 
-abbrev all_numbers : Numeral → List (Behind Numeral) → Separated Numeral
+abbrev pub all_numbers : Numeral → List (Behind Numeral) → Separated Numeral
 all_numbers first more = record { first = first; more = more }
 
 seen_is : (first : Numeral) (before : List (Behind Numeral)) (labels : Known) → SoFar first before labels
@@ -207,3 +212,44 @@ module _ (part : Labels) where
   pub declares : (result : Result Known Stop) → Numbers part.numbers result → Declares (Some part) result
   declares (Ok found) h = (h.0, part_quiet h.1)
   declares (Err why) h = part_fails why h
+
+-- the same over the code's list
+abbrev pub seen_behind : CodeBehind CodeNumeral → Behind Numeral
+seen_behind = behind_in numeral_in
+
+split : {A : Type 0} (xs : List A) (i : ℕ) (d : A) → i < length xs
+    → xs ≡ take i xs ++ get_or xs i d ∷ drop (suc i) xs
+split [] i d h = absurd (omega (arith, h))
+split (x ∷ xs) zero d h = refl
+split (x ∷ xs) (suc i) d h = ap (λ rest. x ∷ rest) (split xs i d (omega (arith, h)))
+
+module _ (first : Numeral) (more : List (CodeBehind CodeNumeral)) (i : ℕ) (d : CodeBehind CodeNumeral) where
+  pub number_more : (labels next : Known) → i < length more
+      → SoFar first (map seen_behind (take i more)) labels
+      → new_label (numbers_of labels) (get_or more i d).item.value ≡ []
+      → next ≡ labels ++ fresh_label (get_or more i d).item.value ∷ []
+      → SoFar first (map seen_behind (take (i + 1) more)) next
+  number_more labels next within h new is =
+      subst (λ (before : List (Behind Numeral)). SoFar first before next)
+      (sym (ap (map seen_behind) (take_more more i d within)
+      ∙ map-append seen_behind (take i more) (get_or more i d ∷ [])))
+      (one_more first (map seen_behind (take i more)) (seen_behind (get_or more i d)) labels next h new is)
+
+  pub number_stopped : (labels : Known) (why : Stop) → i < length more
+      → SoFar first (map seen_behind (take i more)) labels
+      → IsNew labels (numeral_in (get_or more i d).item) (Err why)
+      → Numbers (all_numbers first (map seen_behind more)) (Err why)
+  number_stopped labels why within h k =
+      subst (λ (all : List (Behind Numeral)). Numbers (all_numbers first all) (Err why))
+      (sym (ap (map seen_behind) (split more i d within)
+      ∙ map-append seen_behind (take i more) (get_or more i d ∷ drop (suc i) more)))
+      (stopped first (map seen_behind (take i more)) (seen_behind (get_or more i d))
+      (map seen_behind (drop (suc i) more)) labels why h k)
+
+pub numbers_ended : (first : Numeral) (more : List (CodeBehind CodeNumeral)) (i : ℕ) (labels : Known)
+    → length more ≤ i → SoFar first (map seen_behind (take i more)) labels
+    → Numbers (all_numbers first (map seen_behind more)) (Ok labels)
+numbers_ended first more i labels all h =
+    ended first (map seen_behind more) labels
+    (subst (λ (taken : List (CodeBehind CodeNumeral)). SoFar first (map seen_behind taken) labels)
+    (take_all i more all) h)

@@ -86,7 +86,11 @@ impl Labels {
         ensures ok { OnOk result (self.new ≡ self.old ++ fresh_label numeral.value ∷ []) }
     {
         demand(!self.has(numeral.value), DUPLICATE_NAME, numeral.line)?;
-        demand(numeral.value <= GREATEST_LABEL, CONSTANT_OUT_OF_RANGE, numeral.line)?;
+        demand(
+            numeral.value <= GREATEST_LABEL,
+            CONSTANT_OUT_OF_RANGE,
+            numeral.line,
+        )?;
         let label = Label {
             stands: false,
             around: 0,
@@ -189,7 +193,11 @@ impl Labels {
         ensures ok { OnOk result (self.new ≡ stood numeral.value self.old) }
         ensures err { OnErr result (self.new ≡ self.old) }
     {
-        demand(numeral.value <= GREATEST_LABEL, CONSTANT_OUT_OF_RANGE, numeral.line)?;
+        demand(
+            numeral.value <= GREATEST_LABEL,
+            CONSTANT_OUT_OF_RANGE,
+            numeral.line,
+        )?;
         match (spot, self.known(numeral.value)) {
             (Spot::InList, Some(label)) if !label.stands => {
                 let stands = true;
@@ -276,7 +284,11 @@ pub(crate) fn goto_of(
     ensures { Settles (number_at 0 (numeral_in numeral) ∷ [])
         (goto_by program.now last (option_copied routine.entry) numeral.value) goto_in result }
 {
-    demand(numeral.value <= GREATEST_LABEL, CONSTANT_OUT_OF_RANGE, numeral.line)?;
+    demand(
+        numeral.value <= GREATEST_LABEL,
+        CONSTANT_OUT_OF_RANGE,
+        numeral.line,
+    )?;
     match routine {
         Some(routine) if routine.has(numeral.value) => to_list(routine, numeral),
         Some(_) => to_program(program, last, numeral),
