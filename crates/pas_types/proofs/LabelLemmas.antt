@@ -1,18 +1,17 @@
 -- What is known of labels, as it changes.
-use Rattle.std.proofs.Common.{◌≡◌, refl, sym, ap, subst, ◌∙◌, ℕ, suc, ◌+◌, ◌-◌, arith, Bool, true, false, List, [], ◌∷◌}
-use Rattle.std.proofs.Common.{◌++◌, length, map, Option, Some, None, Ok}
-use Rattle.std.specs.Prelude.{◌==◌, ◌&&◌, ◌||◌, not, nat_eq, nat_lt, if◌then◌else◌, cond, position, is_some}
-use Rattle.std.specs.List.{list_any, list_all, AllByRecursion}
+use Rattle.std.proofs.Common.{◌≡◌, refl, sym, ap, subst, ◌∙◌, ℕ, ◌+◌, ◌-◌, arith, Bool, true, false, List, [], ◌∷◌}
+use Rattle.std.proofs.Common.{◌++◌, map, Option, Some, None, Ok}
+use Rattle.std.specs.Prelude.{◌==◌, ◌||◌, not, nat_eq, if◌then◌else◌, cond, position, is_some}
+use Rattle.std.specs.List.{AllByRecursion}
 use Rattle.std.specs.List.{IsDistinct}
 use Rattle.std.specs.Map.{lookup, keys_of}
 use Rattle.std.proofs.lemmas.Bool.{eqb-true, eq-eqb}
-use Rattle.std.proofs.lemmas.Option.{none-some}
 use Rattle.indexmap.specs.IndexMap.{insert_entry, set_value_at}
 use Rattle.indexmap.proofs.MapLemmas.{insert_entry-first, Found-position}
 use Rattle.pas_types.specs.declared.labels.Label.{Label}
 use Rattle.pas_types.specs.Labels.{has_label}
 use Rattle.pas_types.specs.inner.Stopping.{demanded}
-use Rattle.pas_types.specs.inner.LabelViews.{Known, numbers_of, times, label_at, known_labels, changed_at, put_label}
+use Rattle.pas_types.specs.inner.LabelViews.{Known, numbers_of, times, changed_at, put_label}
 use Rattle.pas_types.specs.inner.LabelViews.{entered, left}
 use Rattle.pas_types.specs.inner.LabelViews.{stood}
 

@@ -1,13 +1,12 @@
 -- What is known of labels, by the labels that stand before a place and those of the lists around it.
-use Rattle.std.proofs.Common.{◌≡◌, refl, sym, ap, ◌∙◌, ℕ, ◌+◌, ◌-◌, arith, Bool, true, false, List, [], ◌∷◌, ◌++◌, map}
+use Rattle.std.proofs.Common.{◌≡◌, refl, sym, ap, ◌∙◌, ℕ, ◌+◌, arith, Bool, true, false, List, [], ◌∷◌, ◌++◌, map}
 use Rattle.std.proofs.Common.{Option, Some, None}
 use Rattle.std.specs.Prelude.{◌==◌, ◌&&◌, ◌||◌, not, nat_eq, nat_lt, if◌then◌else◌, cond}
-use Rattle.std.specs.List.{list_any, list_all}
 use Rattle.std.specs.Map.{lookup}
 use Rattle.std.proofs.lemmas.Bool.{eqb-true}
 use Rattle.std.proofs.lemmas.Grind.{common_steps}
 use Rattle.wb_base.specs.declared.faults.TheConstants.{CONSTANT_OUT_OF_RANGE, WRONG_LABEL, WRONG_GOTO}
-use Rattle.pas_tokens.specs.Cutting.{Wrong, wrong}
+use Rattle.pas_tokens.specs.Cutting.{wrong}
 use Rattle.pas_types.specs.declared.limits.TheConstants.{GREATEST_LABEL}
 use Rattle.pas_types.specs.declared.labels.Label.{Label}
 use Rattle.pas_typed.specs.Typed as typed
@@ -17,7 +16,7 @@ use Rattle.pas_types.specs.Labels.{has_label, block_labels, Spot, is_in_list, la
 use Rattle.pas_types.specs.Routines.{all_stand}
 use Rattle.pas_types.specs.inner.LabelViews.{Known, numbers_of, times, label_at, known_labels, entered, left, stood}
 use Rattle.pas_types.specs.inner.LabelViews.{is_free, is_within, may_stand, is_around_in, all_stand_in, standing_faults}
-use Rattle.pas_types.specs.inner.LabelViews.{main_by, program_by, block_by, goto_by}
+use Rattle.pas_types.specs.inner.LabelViews.{program_by, goto_by}
 use Rattle.pas_types.proofs.LabelLemmas.{times_append, same_sides}
 
 map_over : {A B C : Type 0} (f : A → B) (g : B → C) (h : A → C) → ((x : A) → g (f x) ≡ h x) → (xs : List A)

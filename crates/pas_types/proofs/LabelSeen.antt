@@ -1,7 +1,7 @@
 -- The labels of the code's lists, as the definition has them.
 use Rattle.std.proofs.Common.{◌≡◌, refl, sym, ap, ◌∙◌, ℕ, ◌+◌, ◌<◌, ◌≤◌, List, [], ◌∷◌, ◌++◌, map, length, take, get_or}
 use Rattle.std.proofs.lemmas.List.{take_more, take_all}
-use Rattle.std.proofs.Common.{suc, ◌-◌, zero, arith, Option, Some, None}
+use Rattle.std.proofs.Common.{suc, ◌-◌, zero, arith, Some, None}
 use Rattle.std.specs.Prelude.{option_to_list, slice_get}
 use Rattle.pas_syntax.specs.declared.tree.Statements as code_statements
 use Rattle.pas_syntax.specs.declared.tree.MoreStatement as code_more_statement

@@ -1,6 +1,6 @@
 -- Labels that are declared one behind another.
 use Rattle.std.proofs.Common.{◌≡◌, refl, sym, ap, subst, ◌∙◌, ℕ, ◌+◌, ◌<◌, arith, false, List, [], ◌∷◌, ◌++◌, length}
-use Rattle.std.proofs.Common.{zero, suc, ◌≤◌, map, take, drop, get_or, Option, Some, None, Result, Ok, Err}
+use Rattle.std.proofs.Common.{zero, suc, ◌≤◌, map, take, drop, get_or, Some, Result, Ok, Err}
 use Rattle.std.specs.Prelude.{flat_map, ⊤}
 use Rattle.std.proofs.lemmas.List.{append_assoc, map-append, take_more, take_all}
 use Rattle.pas_tokens.specs.declared.kinds.Kind.TheVariants as k
@@ -13,10 +13,10 @@ use Rattle.pas_types.specs.declared.stop.Stop.{Stop}
 use Rattle.pas_types.specs.declared.stop.Stop.TheVariants as stop
 use Rattle.pas_types.specs.Marks.{Marks, quiet, shows, joined, listed}
 use Rattle.pas_types.specs.Declarations.{new_label, each_label, label_marks}
-use Rattle.pas_types.specs.inner.Answers.{FailsBy, IsQuiet, Shows}
+use Rattle.pas_types.specs.inner.Answers.{FailsBy, IsQuiet}
 use Rattle.pas_types.specs.inner.LabelViews.{Known, numbers_of, known_labels}
 use Rattle.pas_types.specs.inner.LabelAnswers.{fresh_label, IsNew, Numbers, Declares}
-use Rattle.pas_types.proofs.AsMany.{AsMany, one, next_word, behind_word, before_word}
+use Rattle.pas_types.proofs.AsMany.{AsMany, one, next_word, behind_word}
 use Rattle.pas_types.proofs.SettleLemmas.{quiet_behind, quiet_word, quiet_alone, shows_front, shows_behind, shows_alone}
 use Rattle.pas_types.proofs.LabelRules.{numbers_known}
 

@@ -1,7 +1,8 @@
 //! Parts that were looked at.
 ghost use Rattle.std.specs.Prelude.{◌≡◌};
 ghost use Rattle.pas_types.specs.inner.Stopping.{wrong_in, found_before};
-ghost use Rattle.pas_types.specs.inner.Answers.{end_in, lawful_end, short_end, refused_end, noted_end, closed_end, stands_by, settled_by, Closes};
+ghost use Rattle.pas_types.specs.inner.Answers.{end_in, lawful_end, short_end, refused_end, noted_end, closed_end};
+ghost use Rattle.pas_types.specs.inner.Answers.{stands_by, settled_by, Closes};
 
 use crate::stop::{Stop, Wrong, before, shown};
 use wb_base::faults::WRONG_TYPE;

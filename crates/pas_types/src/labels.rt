@@ -11,7 +11,9 @@ ghost use Rattle.pas_types.specs.Labels.{has_label, labels_of_list};
 ghost use Rattle.pas_types.specs.Statements as statement_rule;
 ghost use Rattle.pas_types.specs.inner.Ends.{lowest_of};
 ghost use Rattle.pas_types.specs.inner.Answers.{stands_at, Settles};
-ghost use Rattle.pas_types.specs.inner.LabelViews.{spot_in, numbers_of, put_label, entered, left, stood, standing_faults, is_around_in, all_stand_in, goto_in, goto_by, program_by, main_by};
+ghost use Rattle.pas_types.specs.inner.LabelViews.{spot_in, numbers_of, put_label, entered, left, stood};
+ghost use Rattle.pas_types.specs.inner.LabelViews.{standing_faults, is_around_in, all_stand_in};
+ghost use Rattle.pas_types.specs.inner.LabelViews.{goto_in, goto_by, program_by, main_by};
 ghost use Rattle.pas_types.specs.inner.LabelAnswers.{fresh_label, IsNew, Numbers, Declares};
 
 use crate::limits::GREATEST_LABEL;

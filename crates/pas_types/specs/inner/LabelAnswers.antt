@@ -1,5 +1,5 @@
 -- What the declarations of labels answer.
-use Rattle.std.specs.Prelude.{◌≡◌, ℕ, false, List, [], ◌∷◌, map, Option, Result, Ok, Err}
+use Rattle.std.specs.Prelude.{◌≡◌, ℕ, false, [], ◌∷◌, map, Option, Result, Ok, Err}
 use Rattle.pas_tokens.specs.declared.kinds.Kind.TheVariants as k
 use Rattle.pas_syntax.specs.Tree.{Numeral, Separated, Labels}
 use Rattle.pas_syntax.specs.Words.{number_at, separated, words_if, labels_words}

@@ -1,4 +1,4 @@
-use Rattle.std.proofs.Common.{◌≡◌, ap, sym, subst, Option, Some}
+use Rattle.std.proofs.Common.{ap, sym, subst, Option}
 use Rattle.std.specs.Option.{option_copied}
 use Rattle.pas_syntax.specs.declared.tree.Labels.{Labels as CodeLabels}
 use Rattle.pas_syntax.specs.Views.{if_there}

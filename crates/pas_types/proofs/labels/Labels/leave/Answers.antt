@@ -1,11 +1,10 @@
-use Rattle.std.proofs.Common.{◌≡◌, ◌∙◌, ap, sym, ℕ, ◌+◌, List, [], ◌∷◌, ◌++◌, take, length}
+use Rattle.std.proofs.Common.{◌∙◌, ap, sym, ℕ, List, take}
 use Rattle.std.specs.Prelude.{option_to_list}
-use Rattle.std.proofs.lemmas.List.{take_more}
 use Rattle.pas_syntax.specs.declared.tree.Others.TheViews.{out-Statements, out-MoreStatement}
 use Rattle.pas_syntax.specs.declared.tree.MoreStatement.{MoreStatement}
 use Rattle.pas_syntax.specs.Tree.{Statement}
-use Rattle.pas_syntax.specs.ProgramViews.{statement_in, statements_in}
-use Rattle.pas_types.specs.Labels.{own_label, labels_of_list}
+use Rattle.pas_syntax.specs.ProgramViews.{statement_in}
+use Rattle.pas_types.specs.Labels.{labels_of_list}
 use Rattle.pas_types.specs.Statements.{label_of}
 use Rattle.pas_types.specs.inner.LabelViews.{Known, left}
 use Rattle.pas_types.proofs.LabelLemmas.{left_both}

@@ -1,6 +1,5 @@
-use Rattle.std.proofs.Common.{rules, ◌≡◌, ◌∙◌, ap, sym, ℕ, ◌-◌, Option, Some, None, arith}
-use Rattle.std.specs.Prelude.{nat_eq, option_to_list}
-use Rattle.std.specs.Map.{lookup}
+use Rattle.std.proofs.Common.{rules, ◌≡◌, ◌∙◌, ap, sym, ℕ, ◌-◌, Option}
+use Rattle.std.specs.Prelude.{option_to_list}
 use Rattle.pas_types.specs.declared.labels.Label.{Label}
 use Rattle.pas_types.specs.inner.LabelViews.{Known, put_label, left}
 use Rattle.pas_types.proofs.LabelLemmas.{put_left, left_nowhere, left_nothing, not_some}

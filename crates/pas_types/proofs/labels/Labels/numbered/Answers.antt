@@ -1,9 +1,8 @@
-use Rattle.std.proofs.Common.{◌≡◌, sym, subst, List, map, Ok, Err}
+use Rattle.std.proofs.Common.{subst, List, map, Ok, Err}
 use Rattle.std.proofs.lemmas.Result.{err_from_is_err_and}
 use Rattle.pas_syntax.specs.declared.tree.Numeral.{Numeral as CodeNumeral}
 use Rattle.pas_syntax.specs.declared.tree.Behind.{Behind as CodeBehind}
-use Rattle.pas_syntax.specs.Tree.{Numeral}
-use Rattle.pas_syntax.specs.Views.{numeral_in, behind_in, separated_in}
+use Rattle.pas_syntax.specs.Views.{numeral_in, separated_in}
 use Rattle.pas_types.specs.inner.LabelViews.{Known}
 use Rattle.pas_types.specs.inner.LabelAnswers.{IsNew, Numbers}
 use Rattle.pas_types.proofs.NumberLemmas.{numbers_stop, unbegun, number_stopped, number_more, numbers_ended, all_numbers}

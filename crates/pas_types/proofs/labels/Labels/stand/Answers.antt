@@ -1,4 +1,4 @@
-use Rattle.std.proofs.Common.{◌≡◌, ◌∙◌, ap, sym, ℕ, Option, Some}
+use Rattle.std.proofs.Common.{◌∙◌, sym}
 use Rattle.pas_types.specs.declared.labels.Label.{Label}
 use Rattle.pas_types.specs.inner.LabelViews.{Known}
 use Rattle.pas_types.proofs.LabelLemmas.{put_stood}
