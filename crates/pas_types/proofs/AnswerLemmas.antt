@@ -10,7 +10,8 @@ use Rattle.pas_types.specs.declared.stop.Stop.{Stop}
 use Rattle.pas_types.specs.declared.stop.Stop.TheVariants as stop
 use Rattle.pas_types.specs.declared.judged.Judged.{Judged as CodeJudged}
 use Rattle.pas_types.specs.Marks.{Marks, quiet, followed, joined, with_behind, unless, Judged, judged, means}
-use Rattle.pas_types.specs.Marks.{refuses, known, both, noted, checked, checked_by, kept_by, at_last, faults_if, first_fault}
+use Rattle.pas_types.specs.Marks.{refuses, known, both, noted, checked, checked_by, kept_by, at_last, faults_if}
+use Rattle.pas_types.specs.Marks.{first_fault}
 use Rattle.pas_types.specs.inner.Ends.{Ends, Stops}
 use Rattle.pas_types.specs.inner.Stopping.{shown_in, found_before}
 use Rattle.pas_types.specs.inner.Answers.{Ending, lawful_end, short_end, noted_end, closed_end, stands_at}

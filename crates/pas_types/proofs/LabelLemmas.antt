@@ -32,7 +32,8 @@ same_sides a b = sides (nat_eq a b) (nat_eq b a) refl refl
     sides true false e f = sym (eq-eqb b a (sym (eqb-true a b e))) ∙ f
     sides false true e f = sym e ∙ eq-eqb a b (sym (eqb-true b a f))
 
-pub found_has : (label : ℕ) (labels : Known) → is_some (lookup (nat_eq label) labels) ≡ has_label (numbers_of labels) label
+pub found_has : (label : ℕ) (labels : Known)
+    → is_some (lookup (nat_eq label) labels) ≡ has_label (numbers_of labels) label
 found_has label [] = refl
 found_has label (known ∷ labels) =
     at (nat_eq label known.0) (found_has label labels)
@@ -227,11 +228,13 @@ map_itself f same (x ∷ xs) = λ i. same x i ∷ map_itself f same xs i
 
 pub entered_nothing : (labels : Known) → entered [] labels ≡ labels
 entered_nothing labels =
-    map_itself _ (λ known. ap (λ (n : ℕ). (known.0, record { stands = known.1.stands; around = n })) (omega arith)) labels
+    map_itself _ (λ known. ap (λ (n : ℕ). (known.0, record { stands = known.1.stands; around = n })) (omega arith))
+    labels
 
 pub left_nothing : (labels : Known) → left [] labels ≡ labels
 left_nothing labels =
-    map_itself _ (λ known. ap (λ (n : ℕ). (known.0, record { stands = known.1.stands; around = n })) (omega arith)) labels
+    map_itself _ (λ known. ap (λ (n : ℕ). (known.0, record { stands = known.1.stands; around = n })) (omega arith))
+    labels
 
 pub times_append : (label : ℕ) (one other : List ℕ) → times label (one ++ other) ≡ times label one + times label other
 times_append label [] other = omega arith
@@ -269,7 +272,8 @@ not_had label labels h = none_of (lookup (nat_eq label) labels) (found_has label
     none_of (Some label) e = cc
 
 -- what was demanded holds
-pub demanded_holds : (holds : Bool) (code line : ℕ) (done : Unit {0}) → demanded holds code line ≡ Ok done → holds ≡ true
+pub demanded_holds : (holds : Bool) (code line : ℕ) (done : Unit {0}) → demanded holds code line ≡ Ok done
+    → holds ≡ true
 demanded_holds true code line done is = refl
 demanded_holds false code line done is = cc
 

@@ -44,7 +44,8 @@ module _ (spellings : List ℕ) where
 
   -- the labels of a statement and of so many behind it
   abbrev pub labels_so_far : Statement → List code_more_statement.MoreStatement → List ℕ
-  labels_so_far first more = labels_of_list (in_turn (tree.first_statement first) (map (more_statement_in spellings) more))
+  labels_so_far first more =
+      labels_of_list (in_turn (tree.first_statement first) (map (more_statement_in spellings) more))
 
   turned_push : {A : Type 0} (start : A) (steps : List (A → A)) (step : A → A)
       → in_turn start (steps ++ step ∷ []) ≡ step (in_turn start steps)

@@ -117,7 +117,8 @@ fails_later seen numeral [] behind more why new h =
 fails_later seen numeral (next ∷ before) behind more why new h =
     fails_behind seen numeral next (before ++ behind ∷ more) why new.0
     (fails_later (seen ++ numeral.value ∷ []) next.item before behind more why new.1
-    (subst (λ (others : List ℕ). FailsBy (number_at 0 behind.item ∷ []) (shows (new_label others behind.item.value)) why)
+    (subst (λ (others : List ℕ). FailsBy (number_at 0 behind.item ∷ []) (shows (new_label others behind.item.value))
+    why)
     (sym (append_assoc seen (numeral.value ∷ []) (next.item.value ∷ values (items before)))) h))
 
 -- how far declaring has come

@@ -156,7 +156,8 @@ module _ {A X : Type 0} (words : List Word) (part : Judged A) (view : X → A) w
   found_means line found (Err why) is h = cc
 
   pub found_stops : (line : ℕ) (why : Stop) (result : Result X Stop) → Err why ≡ found_before line result
-      → Settles words part view result → (other : Stop) × (why ≡ stop_before line other) × ShowsBy words part.marks other
+      → Settles words part view result
+      → (other : Stop) × (why ≡ stop_before line other) × ShowsBy words part.marks other
   found_stops line why (Ok other) is h = cc
   found_stops line why (Err other) is h = (other, cc, h)
 

@@ -12,8 +12,8 @@ use Rattle.pas_types.specs.Marks.{Marks, Judged, first_fault}
 use Rattle.pas_types.specs.inner.Ends.{AreQuiet, lower_of, shown_behind, refusal_behind, Ends, Stops}
 use Rattle.pas_types.specs.inner.Stopping.{wrong_in, shown_in}
 
--- how a part ends: the line of its last word, the lowest of the faults that this shows, and whether something is missing
--- behind
+-- how a part ends: the line of its last word, the lowest of the faults that this shows, and whether something is
+-- missing behind
 pub record Ending : Type 0 where
   pub line : ℕ
   pub refusal : Option Wrong

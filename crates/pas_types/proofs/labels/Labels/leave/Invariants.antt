@@ -7,5 +7,6 @@ use Rattle.pas_types.proofs.labels.Labels.leave.Given as goal
 
 abbrev pub invariant-loop-more : goal.invariant-loop-more
 invariant-loop-more l =
-    (spellings : List ℕ) → l.self ≡ left (labels_so_far spellings (statement_in spellings (out-Statements l.list).first)
+    (spellings : List ℕ)
+    → l.self ≡ left (labels_so_far spellings (statement_in spellings (out-Statements l.list).first)
     (take l.more-index l.more-items)) l.fn.self

@@ -5,7 +5,8 @@ use Rattle.pas_syntax.specs.declared.tree.Behind.{Behind as CodeBehind}
 use Rattle.pas_syntax.specs.Views.{numeral_in, separated_in}
 use Rattle.pas_types.specs.inner.LabelViews.{Known}
 use Rattle.pas_types.specs.inner.LabelAnswers.{IsNew, Numbers}
-use Rattle.pas_types.proofs.NumberLemmas.{numbers_stop, unbegun, number_stopped, number_more, numbers_ended, all_numbers}
+use Rattle.pas_types.proofs.NumberLemmas.{numbers_stop, unbegun, number_stopped, number_more, numbers_ended}
+use Rattle.pas_types.proofs.NumberLemmas.{all_numbers}
 use Rattle.pas_types.proofs.NumberLemmas.{seen_behind}
 use Rattle.pas_types.proofs.labels.Labels.numbered.Goals as goal
 
