@@ -8,3 +8,9 @@ pub mod RoutinesAsMany
 pub mod CheckLemmas
 pub mod EndLemmas
 pub mod PartLemmas
+pub mod AnswerLemmas
+pub mod SettleLemmas
+pub mod LabelLemmas
+pub mod LabelSeen
+pub mod LabelRules
+pub mod NumberLemmas
