@@ -8,3 +8,4 @@ pub mod RoutinesAsMany
 pub mod CheckLemmas
 pub mod EndLemmas
 pub mod PartLemmas
+pub mod NameLemmas

@@ -9,4 +9,7 @@ pub mod Declarations
 pub mod Routines
 pub mod Check
 pub mod CheckRows
+pub mod NameViews
+pub mod RequiredViews
+pub mod NamesInside
 pub mod inner
