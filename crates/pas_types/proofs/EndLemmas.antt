@@ -15,7 +15,7 @@ use Rattle.pas_types.specs.Marks.{Marks, quiet, first_of, last_of, at_last, foll
 use Rattle.pas_types.specs.Marks.{Judged, judged, noted, checked, checked_by, kept_by, faults_if, lowest}
 use Rattle.pas_types.specs.Marks.{first_fault}
 use Rattle.pas_types.proofs.AsMany.{first_count, last_count}
-use Rattle.pas_types.specs.inner.Ends.{AreQuiet, lowest_of, lower_of, End, Ends, Stops}
+use Rattle.pas_types.specs.inner.Ends.{AreQuiet, lowest_of, lower_of, End, refusal_behind, Ends, Stops}
 
 -- quiet words in front change nothing
 pub behind_quiet : (words more : List Word) (tokens next : List (List Wrong)) → AreQuiet words tokens
@@ -383,10 +383,6 @@ stops_refused words more part value line refusal is_short next whole h many some
     (end_faulty words part.marks.tokens line refusal h.end) many some
 
 -- a part, and the word that closes a larger one
-abbrev pub refusal_behind : Bool → Option Wrong
-refusal_behind true = Some (wrong WRONG_TYPE)
-refusal_behind false = None
-
 pub ends_closed : {A B : Type 0} (words : List Word) (part : Judged A) (value : A) (line : ℕ) (is_short : Bool)
     (word : Word) (known : Option B) (whole : B) → Ends words part value line None is_short → known ≡ Some whole
     → Ends (words ++ word ∷ []) (judged (joined (part.marks ∷ quiet ∷ [])) known) whole word.token.line

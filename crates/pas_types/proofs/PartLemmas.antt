@@ -1,6 +1,6 @@
 -- What checking finds of parts that are made of others: one behind a word, two with a word between them, one between
 -- two words.
-use Rattle.std.proofs.Common.{◌≡◌, refl, sym, ap, subst, ◌∙◌, ℕ, ◌+◌, ◌<◌, arith, Bool, true, false, List, [], ◌∷◌}
+use Rattle.std.proofs.Common.{◌≡◌, refl, sym, ap, subst, ◌∙◌, ℕ, ◌<◌, arith, Bool, true, false, List, [], ◌∷◌}
 use Rattle.std.proofs.Common.{◌++◌, length, Option, Some, None}
 use Rattle.std.proofs.lemmas.List.{append-nil}
 use Rattle.wb_base.specs.declared.faults.Fault.{Fault}
@@ -9,10 +9,10 @@ use Rattle.pas_tokens.specs.Cutting.{Wrong, wrong}
 use Rattle.pas_tokens.specs.Tokens.{fault_in}
 use Rattle.pas_syntax.specs.Words.{Word}
 use Rattle.pas_types.specs.Marks.{Marks, no_token, quiet, followed, joined, Judged, judged, known, both}
-use Rattle.pas_types.specs.inner.Ends.{Ends, Stops}
+use Rattle.pas_types.specs.inner.Ends.{refusal_behind, Ends, Stops}
 use Rattle.pas_types.proofs.AsMany.{AsMany, all, behind_word}
 use Rattle.pas_types.proofs.EndLemmas.{end_quiet, stops_in_front, stops_behind, stops_refused, stops_short, ends_behind}
-use Rattle.pas_types.proofs.EndLemmas.{ends_closed, refusal_behind}
+use Rattle.pas_types.proofs.EndLemmas.{ends_closed}
 
 -- two parts with a word between them
 abbrev pub pair : {A B C : Type 0} → (A → B → C) → Judged A → Judged B → Judged C

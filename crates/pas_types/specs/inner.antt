@@ -1,2 +1,4 @@
 -- What private contracts say. No contract of a public call cites this.
 pub mod Ends
+pub mod Stopping
+pub mod Answers

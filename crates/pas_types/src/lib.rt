@@ -1,7 +1,9 @@
 //! The scopes and types of Pascal.
 #![tactic(auto)]
 
+mod judged;
 mod limits;
 mod names;
+mod stop;
 
 pub use limits::{CELL_LIMIT, GREATEST_LABEL, ROUTINE_CELL_LIMIT, ROUTINE_LIMIT};

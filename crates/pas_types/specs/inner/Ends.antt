@@ -34,6 +34,11 @@ abbrev pub shown_behind : Bool → List Wrong
 shown_behind true = wrong WRONG_TYPE ∷ []
 shown_behind false = []
 
+-- what the word behind shows because of it, where that closes a larger part
+abbrev pub refusal_behind : Bool → Option Wrong
+refusal_behind true = Some (wrong WRONG_TYPE)
+refusal_behind false = None
+
 -- a part that means this, and ends so
 pub record Ends {A : Type 0} (words : List Word) (part : Judged A) (value : A) (line : ℕ) (refusal : Option Wrong)
     (is_short : Bool) : Type 0 where

@@ -1,0 +1,159 @@
+//! Parts that were looked at.
+ghost use Rattle.std.specs.Prelude.{◌≡◌};
+ghost use Rattle.pas_types.specs.inner.Stopping.{wrong_in, found_before};
+ghost use Rattle.pas_types.specs.inner.Answers.{end_in, lawful_end, short_end, refused_end, noted_end, closed_end, stands_by, settled_by, Closes};
+
+use crate::stop::{Stop, Wrong, before, shown};
+use wb_base::faults::WRONG_TYPE;
+
+// The end of a part: the line of its last token, the lowest fault that this token shows because the part breaks a
+// rule, and whether something is missing at the token behind.
+#[derive(Clone, Copy)]
+pub(crate) struct End {
+    pub(crate) line: u32,
+    pub(crate) refusal: Option<Wrong>,
+    pub(crate) is_short: bool,
+}
+
+// What a part means, and its end. A part that breaks a rule stays known by its type, so that each fault of its last
+// token is seen.
+#[derive(Drop)]
+pub(crate) struct Judged<T> {
+    pub(crate) value: T,
+    pub(crate) end: End,
+}
+
+impl End {
+    // The end of a part that breaks no rule.
+    pub(crate) fn lawful(line: u32) -> End
+        ensures { end_in result ≡ lawful_end line }
+    {
+        End {
+            line,
+            refusal: None,
+            is_short: false,
+        }
+    }
+
+    // This, of a part behind which something is missing.
+    pub(crate) fn short(self) -> End
+        ensures { end_in result ≡ short_end (end_in self) }
+    {
+        End {
+            is_short: true,
+            ..self
+        }
+    }
+
+    // The end of a larger part that the token behind this one closes, in this line.
+    fn closed(self, line: u32) -> End
+        ensures { end_in result ≡ closed_end line (end_in self) }
+    {
+        let end = End::lawful(line);
+        if self.is_short {
+            end.refused(Wrong {
+                code: WRONG_TYPE,
+                which: 0,
+            })
+        } else {
+            end
+        }
+    }
+
+    // This, with a fault of the last token.
+    fn refused(self, found: Wrong) -> End
+        ensures { end_in result ≡ refused_end (end_in self) (wrong_in found) }
+    {
+        let refusal = match self.refusal {
+            Some(lower) if lower.code <= found.code => Some(lower),
+            _ => Some(found),
+        };
+        End { refusal, ..self }
+    }
+
+    // Refuses the part by the fault of its last token.
+    pub(crate) fn stands(self) -> Result<(), Stop>
+        ensures { result ≡ stands_by (end_in self) }
+    {
+        match self.refusal {
+            Some(wrong) => Err(shown(wrong, self.line)),
+            None => Ok(()),
+        }
+    }
+
+    // Refuses the part by the fault of its last token, or where something is missing behind it.
+    fn is_whole(self) -> Result<(), Stop>
+        ensures { result ≡ settled_by (end_in self) tt }
+    {
+        self.stands()?;
+        if self.is_short {
+            Err(Stop::Missing)
+        } else {
+            Ok(())
+        }
+    }
+}
+
+impl<T: Drop> Judged<T> {
+    // A part that breaks no rule.
+    pub(crate) fn lawful(value: T, line: u32) -> Judged<T>
+        ensures value { result.value ≡ value }
+        ensures end { end_in result.end ≡ lawful_end line }
+    {
+        Judged {
+            value,
+            end: End::lawful(line),
+        }
+    }
+
+    // This, with a fault of the last token where a rule does not hold.
+    pub(crate) fn noted(self, holds: bool, code: u16) -> Judged<T>
+        ensures value { result.value ≡ self.value }
+        ensures end { end_in result.end ≡ noted_end holds code (end_in self.end) }
+    {
+        if holds {
+            self
+        } else {
+            self.refused(Wrong { code, which: 0 })
+        }
+    }
+
+    // This, with a fault of the last token.
+    pub(crate) fn refused(self, found: Wrong) -> Judged<T>
+        ensures value { result.value ≡ self.value }
+        ensures end { end_in result.end ≡ refused_end (end_in self.end) (wrong_in found) }
+    {
+        let Judged { value, end } = self;
+        Judged {
+            value,
+            end: end.refused(found),
+        }
+    }
+
+    // This, where the last token breaks no rule, and the token behind closes a larger part, in this line.
+    pub(crate) fn closed(self, line: u32) -> Result<Judged<T>, Stop>
+        ensures { Closes self line result }
+    {
+        self.end.stands()?;
+        let Judged { value, end } = self;
+        Ok(Judged {
+            value,
+            end: end.closed(line),
+        })
+    }
+
+    // What a part means that breaks no rule.
+    pub(crate) fn settled(self) -> Result<T, Stop>
+        ensures { result ≡ settled_by (end_in self.end) self.value }
+    {
+        self.end.is_whole()?;
+        Ok(self.value)
+    }
+
+    // What a part means that breaks no rule, where the token behind it stands in this line.
+    pub(crate) fn before(self, line: u32) -> Result<T, Stop>
+        ensures { result ≡ found_before line (settled_by (end_in self.end) self.value) }
+    {
+        before(line, self.settled())
+    }
+}
