@@ -10,6 +10,6 @@ pub mod Routines
 pub mod Check
 pub mod CheckRows
 pub mod NameViews
-pub mod RequiredViews
+pub mod OutsideViews
 pub mod NamesInside
 pub mod inner

@@ -3,7 +3,7 @@ ghost use Rattle.std.specs.Prelude.{◌≡◌, [], map, option_map, OnOk, OnErr}
 ghost use Rattle.pas_types.specs.Scopes as spec;
 ghost use Rattle.pas_types.specs.Scopes.{entity_in, names_of, contains};
 ghost use Rattle.pas_types.specs.NameViews.{entity_view, with_new};
-ghost use Rattle.pas_types.specs.RequiredViews.{required_view};
+ghost use Rattle.pas_types.specs.OutsideViews.{outside_view};
 
 use indexmap::IndexMap;
 use pas_tokens::GREATEST_NUMBER;
@@ -91,7 +91,7 @@ impl<'p> Names<'p> {
 
 // A name that lies outside each program, and what it stands for.
 #[derive(Clone, Copy)]
-struct Required {
+struct Outside {
     name: &'static [u8],
     entity: Entity,
 }
@@ -103,41 +103,41 @@ const BOOLEAN: Entity = Entity::Type(PasType::Whole(Base::Boolean));
 
 // The required names.
 #[rattlefmt::skip]
-const REQUIRED: [Required; 22] = [
-    Required { name: b"integer", entity: INTEGER },
-    Required { name: b"char", entity: CHAR },
-    Required { name: b"boolean", entity: BOOLEAN },
-    Required { name: b"text", entity: Entity::Type(PasType::Text) },
-    Required { name: b"false", entity: Entity::Constant(Base::Boolean, 0) },
-    Required { name: b"true", entity: Entity::Constant(Base::Boolean, 1) },
-    Required { name: b"maxint", entity: Entity::Constant(Base::Integer, GREATEST_NUMBER as i64) },
-    Required { name: b"ord", entity: Entity::Function(Function::Ord) },
-    Required { name: b"chr", entity: Entity::Function(Function::Chr) },
-    Required { name: b"abs", entity: Entity::Function(Function::Abs) },
-    Required { name: b"odd", entity: Entity::Function(Function::Odd) },
-    Required { name: b"eof", entity: Entity::FileTest(FileTest::Eof) },
-    Required { name: b"eoln", entity: Entity::FileTest(FileTest::Eoln) },
-    Required { name: b"reset", entity: Entity::FileStep(FileStep::Reset) },
-    Required { name: b"rewrite", entity: Entity::FileStep(FileStep::Rewrite) },
-    Required { name: b"get", entity: Entity::FileStep(FileStep::Get) },
-    Required { name: b"put", entity: Entity::FileStep(FileStep::Put) },
-    Required { name: b"read", entity: Entity::Procedure(Procedure::Read) },
-    Required { name: b"readln", entity: Entity::Procedure(Procedure::Readln) },
-    Required { name: b"write", entity: Entity::Procedure(Procedure::Write) },
-    Required { name: b"writeln", entity: Entity::Procedure(Procedure::Writeln) },
-    Required { name: b"uexit", entity: Entity::Procedure(Procedure::Uexit) },
+const OUTSIDE: [Outside; 22] = [
+    Outside { name: b"integer", entity: INTEGER },
+    Outside { name: b"char", entity: CHAR },
+    Outside { name: b"boolean", entity: BOOLEAN },
+    Outside { name: b"text", entity: Entity::Type(PasType::Text) },
+    Outside { name: b"false", entity: Entity::Constant(Base::Boolean, 0) },
+    Outside { name: b"true", entity: Entity::Constant(Base::Boolean, 1) },
+    Outside { name: b"maxint", entity: Entity::Constant(Base::Integer, GREATEST_NUMBER as i64) },
+    Outside { name: b"ord", entity: Entity::Function(Function::Ord) },
+    Outside { name: b"chr", entity: Entity::Function(Function::Chr) },
+    Outside { name: b"abs", entity: Entity::Function(Function::Abs) },
+    Outside { name: b"odd", entity: Entity::Function(Function::Odd) },
+    Outside { name: b"eof", entity: Entity::FileTest(FileTest::Eof) },
+    Outside { name: b"eoln", entity: Entity::FileTest(FileTest::Eoln) },
+    Outside { name: b"reset", entity: Entity::FileStep(FileStep::Reset) },
+    Outside { name: b"rewrite", entity: Entity::FileStep(FileStep::Rewrite) },
+    Outside { name: b"get", entity: Entity::FileStep(FileStep::Get) },
+    Outside { name: b"put", entity: Entity::FileStep(FileStep::Put) },
+    Outside { name: b"read", entity: Entity::Procedure(Procedure::Read) },
+    Outside { name: b"readln", entity: Entity::Procedure(Procedure::Readln) },
+    Outside { name: b"write", entity: Entity::Procedure(Procedure::Write) },
+    Outside { name: b"writeln", entity: Entity::Procedure(Procedure::Writeln) },
+    Outside { name: b"uexit", entity: Entity::Procedure(Procedure::Uexit) },
 ];
 
 // What a required name stands for.
 pub(crate) fn required(name: &[u8]) -> Option<Entity>
     ensures { option_map entity_view result ≡ entity_in spec.required name.now }
 {
-    entity_among(&REQUIRED, name)
+    entity_among(&OUTSIDE, name)
 }
 
 // What a name stands for in these rows.
-fn entity_among(rows: &[Required], name: &[u8]) -> Option<Entity>
-    ensures { option_map entity_view result ≡ entity_in (map required_view rows.now) name.now }
+fn entity_among(rows: &[Outside], name: &[u8]) -> Option<Entity>
+    ensures { option_map entity_view result ≡ entity_in (map outside_view rows.now) name.now }
 {
     for row in rows {
         if row.name == name {
