@@ -9,3 +9,4 @@ pub mod CheckLemmas
 pub mod EndLemmas
 pub mod PartLemmas
 pub mod NameLemmas
+pub mod NameSetLemmas

@@ -11,5 +11,7 @@ pub mod Check
 pub mod CheckRows
 pub mod NameViews
 pub mod OutsideViews
+pub mod ScopeViews
 pub mod NamesInside
+pub mod NameSetInside
 pub mod inner

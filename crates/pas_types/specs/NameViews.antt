@@ -30,3 +30,7 @@ entity_view code.Unclear = spec.unclear
 -- names with one more, where it is not there yet
 abbrev pub with_new : List Named → List ℕ → Entity → List Named
 with_new found name entity = if contains (names_of found) name then found else found ++ names name entity ∷ []
+
+-- spellings with one more, where it is not there yet
+abbrev pub with_name : List (List ℕ) → List ℕ → List (List ℕ)
+with_name found name = if contains found name then found else found ++ name ∷ []

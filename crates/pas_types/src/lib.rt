@@ -3,7 +3,9 @@
 
 mod judged;
 mod limits;
+mod name_sets;
 mod names;
+mod scopes;
 mod stop;
 
 pub use limits::{CELL_LIMIT, GREATEST_LABEL, ROUTINE_CELL_LIMIT, ROUTINE_LIMIT};
