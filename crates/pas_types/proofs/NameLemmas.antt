@@ -10,8 +10,11 @@ use Rattle.std.proofs.lemmas.List.{map-append}
 use Rattle.indexmap.specs.IndexMap.{insert_entry}
 use Rattle.indexmap.proofs.MapLemmas.{absent_from_lookup, insert_entry-absent}
 use Rattle.pas_types.specs.declared.names.Entity.{Entity as CodeEntity}
-use Rattle.pas_types.specs.Scopes.{Entity, Named, names, entity_in, contains, names_of}
-use Rattle.pas_types.specs.NameViews.{entity_view, with_new}
+use Rattle.pas_types.specs.Scopes.{Entity, Named, names, entity_in, contains, names_of, required}
+use Rattle.pas_types.specs.NameViews.{entity_view, with_new, IsSmall, IsSmallEntity, AreSmall}
+use Rattle.pas_tokens.specs.declared.limits.TheConstants.{GREATEST_NUMBER}
+use Rattle.std.proofs.Common.{arith, pos, IfSome}
+use Rattle.std.proofs.lemmas.Int.{ints}
 use Rattle.pas_types.specs.NamesInside.{named_view}
 
 abbrev pub Entry : Type 0
@@ -71,3 +74,46 @@ inserted key entity entries new =
     ∙ map-append named_view entries ((key, entity) ∷ [])
     ∙ sym (ap (λ b. if b then map named_view entries else map named_view entries ++ names key.now (entity_view entity) ∷ [])
     new)
+
+-- constants that are small
+small_chosen : (b : Bool) (named : Named) (others : Option Named) → IsSmallEntity named.entity
+    → IfSome (option_map (λ (found : Named). found.entity) others) IsSmallEntity
+    → IfSome (option_map (λ (found : Named). found.entity) (cond b (Some named) others)) IsSmallEntity
+small_chosen true named others h k = h
+small_chosen false named others h k = k
+
+pub small_in : (found : List Named) (name : List ℕ) → AreSmall found → IfSome (entity_in found name) IsSmallEntity
+small_in [] name h = tt
+small_in (named ∷ found) name h =
+    small_chosen (bytes_eq named.name name) named (find (λ (other : Named). bytes_eq other.name name) found) h.0
+    (small_in found name h.1)
+
+pub small_view : (found : Option CodeEntity) → IfSome (option_map entity_view found) IsSmallEntity
+    → IfSome found (λ entity. IsSmallEntity (entity_view entity))
+small_view None h = tt
+small_view (Some entity) h = h
+
+small_push : (found : List Named) (name : List ℕ) (entity : Entity) → AreSmall found → IsSmallEntity entity
+    → AreSmall (found ++ names name entity ∷ [])
+small_push [] name entity h k = (k, tt)
+small_push (named ∷ found) name entity h k = (h.0, small_push found name entity h.1 k)
+
+small_by : (b : Bool) (found : List Named) (name : List ℕ) (entity : Entity) → AreSmall found → IsSmallEntity entity
+    → AreSmall (if b then found else found ++ names name entity ∷ [])
+small_by true found name entity h k = h
+small_by false found name entity h k = small_push found name entity h k
+
+pub small_new : (found : List Named) (name : List ℕ) (entity : Entity) → AreSmall found → IsSmallEntity entity
+    → AreSmall (with_new found name entity)
+small_new found name entity h k = small_by (contains (names_of found) name) found name entity h k
+
+small_truth : IsSmall (pos 0) × IsSmall (pos 1)
+small_truth = ((omega (arith, ints), omega (arith, ints)), (omega (arith, ints), omega (arith, ints)))
+
+small_greatest : IsSmall (pos GREATEST_NUMBER)
+small_greatest = (omega (arith, ints), omega (arith, ints))
+
+pub small_required : AreSmall required
+small_required =
+    (tt, (tt, (tt, (tt, (small_truth.0, (small_truth.1, (small_greatest, (tt, (tt, (tt, (tt, (tt, (tt, (tt, (tt, (tt,
+    (tt, (tt, (tt, (tt, (tt, (tt, tt))))))))))))))))))))))

@@ -1,5 +1,5 @@
 -- What names stand for in the code, as the definition has it.
-use Rattle.std.specs.Prelude.{ℕ, if◌then◌else◌, List, [], ◌∷◌, ◌++◌}
+use Rattle.std.specs.Prelude.{ℕ, ◌^◌, ℤ, pos, neg_ℤ, ◌≤ℤ◌, ⊤, if◌then◌else◌, List, [], ◌∷◌, ◌++◌}
 use Rattle.pas_types.specs.declared.names.Procedure.{Procedure as CodeProcedure}
 use Rattle.pas_types.specs.declared.names.Procedure.TheVariants as code_procedure
 use Rattle.pas_types.specs.declared.names.Entity.{Entity as CodeEntity}
@@ -34,3 +34,15 @@ with_new found name entity = if contains (names_of found) name then found else f
 -- spellings with one more, where it is not there yet
 abbrev pub with_name : List (List ℕ) → List ℕ → List (List ℕ)
 with_name found name = if contains found name then found else found ++ name ∷ []
+
+-- a constant is a number of at most 32 bits, behind a sign
+abbrev pub IsSmall : ℤ → Type 0
+IsSmall value = (neg_ℤ (pos (2 ^ 32)) ≤ℤ value) × (value ≤ℤ pos (2 ^ 32))
+
+abbrev pub IsSmallEntity : Entity → Type 0
+IsSmallEntity (spec.constant base value) = IsSmall value
+IsSmallEntity entity = ⊤
+
+abbrev pub AreSmall : List Named → Type 0
+AreSmall [] = ⊤
+AreSmall (named ∷ found) = IsSmallEntity named.entity × AreSmall found

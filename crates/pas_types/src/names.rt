@@ -1,8 +1,8 @@
 //! Names, and what they stand for.
-ghost use Rattle.std.specs.Prelude.{◌≡◌, [], map, option_map, OnOk, OnErr};
+ghost use Rattle.std.specs.Prelude.{◌≡◌, [], map, option_map, IfSome, OnOk, OnErr};
 ghost use Rattle.pas_types.specs.Scopes as spec;
 ghost use Rattle.pas_types.specs.Scopes.{entity_in, names_of, contains};
-ghost use Rattle.pas_types.specs.NameViews.{entity_view, with_new};
+ghost use Rattle.pas_types.specs.NameViews.{entity_view, with_new, IsSmallEntity};
 ghost use Rattle.pas_types.specs.OutsideViews.{outside_view};
 
 use indexmap::IndexMap;
@@ -51,6 +51,10 @@ impl<'p> Model for Names<'p> {
     ghost use Rattle.pas_types.specs.NamesInside.{names_in};
 
     ghost view = { names_in };
+
+    ghost use Rattle.pas_types.specs.NamesInside.{AreSmallInside};
+
+    ghost invariant = { AreSmallInside };
 }
 
 impl<'p> Names<'p> {
@@ -65,7 +69,8 @@ impl<'p> Names<'p> {
 
     // What a name stands for, if it is there.
     pub(crate) fn get(&self, name: &[u8]) -> Option<Entity>
-        ensures { option_map entity_view result ≡ entity_in self.now name.now }
+        ensures entity { option_map entity_view result ≡ entity_in self.now name.now }
+        ensures small { IfSome result (λ entity. IsSmallEntity (entity_view entity)) }
     {
         self.entities.get(name).copied()
     }
@@ -79,6 +84,7 @@ impl<'p> Names<'p> {
 
     // Declares a name, where it is not there yet. Where no memory is found, the names are as they were.
     pub(crate) fn declare(&mut self, name: &'p [u8], entity: Entity) -> Result<(), AllocError>
+        requires { IsSmallEntity (entity_view entity) }
         ensures ok { OnOk result (self.new ≡ with_new self.old name.now (entity_view entity)) }
         ensures err { OnErr result (self.new ≡ self.old) }
     {
@@ -130,7 +136,8 @@ const OUTSIDE: [Outside; 22] = [
 
 // What a required name stands for.
 pub(crate) fn required(name: &[u8]) -> Option<Entity>
-    ensures { option_map entity_view result ≡ entity_in spec.required name.now }
+    ensures entity { option_map entity_view result ≡ entity_in spec.required name.now }
+    ensures small { IfSome result (λ entity. IsSmallEntity (entity_view entity)) }
 {
     entity_among(&OUTSIDE, name)
 }

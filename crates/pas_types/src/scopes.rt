@@ -1,11 +1,11 @@
 //! Scopes (ISO 7185, 6.2): the required names lie outside the program's scope, and that outside each routine's.
-ghost use Rattle.std.specs.Prelude.{◌≡◌, [], option_map, IfOk};
+ghost use Rattle.std.specs.Prelude.{◌≡◌, [], option_map, IfOk, IfSome};
 ghost use Rattle.std.specs.Option.{option_copied};
 ghost use Rattle.pas_syntax.specs.Views.{spelled_in, ident_in};
 ghost use Rattle.pas_typed.specs.TypedViews.{slot_view, heading_view};
 ghost use Rattle.pas_types.specs.Scopes as spec;
 ghost use Rattle.pas_types.specs.Expressions as spec_of;
-ghost use Rattle.pas_types.specs.NameViews.{entity_view};
+ghost use Rattle.pas_types.specs.NameViews.{entity_view, IsSmallEntity};
 ghost use Rattle.pas_types.specs.ScopeViews.{all_idents, scopes_view, no_declarations};
 
 use crate::name_sets::NameSet;
@@ -111,7 +111,8 @@ impl<'p> Scopes<'p> {
 
     // What a name stands for: in the routine, else in the program, else outside.
     pub(crate) fn entity_of(&self, name: &[u8]) -> Option<Entity>
-        ensures { option_map entity_view result ≡ spec.entity_of (scopes_view self.now) name.now }
+        ensures entity { option_map entity_view result ≡ spec.entity_of (scopes_view self.now) name.now }
+        ensures small { IfSome result (λ entity. IsSmallEntity (entity_view entity)) }
     {
         match self.entity_inside(name) {
             Some(entity) => Some(entity),
@@ -121,7 +122,8 @@ impl<'p> Scopes<'p> {
 
     // What a name stands for in the program, else outside.
     fn entity_outside(&self, name: &[u8]) -> Option<Entity>
-        ensures { option_map entity_view result
+        ensures small { IfSome result (λ entity. IsSmallEntity (entity_view entity)) }
+        ensures entity { option_map entity_view result
             ≡ spec.or_else (spec.entity_in self.now.names name.now) (spec.entity_in spec.required name.now) }
     {
         match self.names.get(name) {
@@ -132,7 +134,9 @@ impl<'p> Scopes<'p> {
 
     // What a name stands for in the routine.
     fn entity_inside(&self, name: &[u8]) -> Option<Entity>
-        ensures { option_map entity_view result ≡ spec.entity_in (spec.names_inside (scopes_view self.now).inner) name.now }
+        ensures small { IfSome result (λ entity. IsSmallEntity (entity_view entity)) }
+        ensures entity { option_map entity_view result
+            ≡ spec.entity_in (spec.names_inside (scopes_view self.now).inner) name.now }
     {
         match &self.inner {
             Some(inner) => inner.names.get(name),
@@ -142,7 +146,8 @@ impl<'p> Scopes<'p> {
 
     // What a name of the program's tree stands for.
     pub(crate) fn named(&self, ident: Ident) -> Option<Entity>
-        ensures { option_map entity_view result
+        ensures small { IfSome result (λ entity. IsSmallEntity (entity_view entity)) }
+        ensures entity { option_map entity_view result
             ≡ spec.entity_of (scopes_view self.now) (ident_in self.now.spellings.now ident).name }
     {
         self.entity_of(self.spelling(ident.span))
