@@ -10,3 +10,5 @@ pub mod EndLemmas
 pub mod PartLemmas
 pub mod NameLemmas
 pub mod NameSetLemmas
+pub mod AnswerLemmas
+pub mod SettleLemmas

@@ -80,15 +80,29 @@ abbrev pub Answers : {X A : Type 0} → List Word → Judged A → (X → A) →
 Answers words part view (Ok found) = EndsAs words part (view found.value) (end_in found.end)
 Answers words part view (Err why) = StopsBy words part why
 
--- words that show no fault, behind which something is missing or not
-pub record IsQuiet (words : List Word) (marks : Marks) (is_short : Bool) : Type 0 where
-  pub still : AreQuiet words marks.tokens
-  pub behind : marks.behind ≡ shown_behind is_short
-
 -- words of which this is the first fault
 pub record Shows (words : List Word) (marks : Marks) (fault : Fault) : Type 0 where
   pub many : length marks.tokens ≡ length words
   pub first : first_fault words marks.tokens ≡ Some fault
+
+-- what is answered of a part that stands before a word, which alone shows what is missing before it
+pub record StandsAs {A : Type 0} (words : List Word) (part : Judged A) (value : A) (end : Ending) : Type 0 where
+  pub lawful : end.refusal ≡ None
+  pub ends : EndsAs words part value end
+
+abbrev pub FailsBy : List Word → Marks → Stop → Type 0
+FailsBy words marks stop.OutOfMemory = ⊤
+FailsBy words marks (stop.Fault fault) = Shows words marks fault
+FailsBy words marks stop.Missing = ⊥
+
+abbrev pub Stands : {X A : Type 0} → List Word → Judged A → (X → A) → Result (CodeJudged X) Stop → Type 0
+Stands words part view (Ok found) = StandsAs words part (view found.value) (end_in found.end)
+Stands words part view (Err why) = FailsBy words part.marks why
+
+-- words that show no fault, behind which something is missing or not
+pub record IsQuiet (words : List Word) (marks : Marks) (is_short : Bool) : Type 0 where
+  pub still : AreQuiet words marks.tokens
+  pub behind : marks.behind ≡ shown_behind is_short
 
 -- a part that means this, and shows no fault
 pub record Means {A : Type 0} (words : List Word) (part : Judged A) (value : A) : Type 0 where
