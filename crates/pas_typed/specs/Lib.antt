@@ -1,3 +1,5 @@
 pub mod Types
 pub mod Typed
 pub mod TypeOf
+pub mod TypeViews
+pub mod TypedViews
