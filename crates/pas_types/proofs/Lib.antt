@@ -12,3 +12,4 @@ pub mod NameLemmas
 pub mod NameSetLemmas
 pub mod AnswerLemmas
 pub mod SettleLemmas
+pub mod ConstantLemmas

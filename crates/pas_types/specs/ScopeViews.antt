@@ -1,5 +1,5 @@
 -- The scopes of the code as those of the definition.
-use Rattle.std.specs.Prelude.{List, [], ◌∷◌, ℕ, map, Option, Some, None, option_map, is_some}
+use Rattle.std.specs.Prelude.{◌≢◌, List, [], ◌∷◌, ℕ, map, Option, Some, None, option_map, is_some}
 use Rattle.pas_syntax.specs.declared.tree.Ident.{Ident as CodeIdent}
 use Rattle.pas_syntax.specs.declared.tree.Separated.{Separated as CodeSeparated}
 use Rattle.pas_typed.specs.TypeViews.{table_view}
@@ -7,7 +7,7 @@ use Rattle.pas_typed.specs.TypedViews.{variable_view, heading_view}
 use Rattle.pas_types.specs.declared.scopes.Inner.{Inner as CodeInner}
 use Rattle.pas_types.specs.declared.scopes.KnownRoutine.{KnownRoutine as CodeRoutine}
 use Rattle.pas_types.specs.declared.scopes.Scopes.{Scopes as CodeScopes}
-use Rattle.pas_types.specs.Scopes.{KnownRoutine, Outer, Inner, Scopes}
+use Rattle.pas_types.specs.Scopes.{KnownRoutine, Outer, Inner, Scopes, entity_of, unclear}
 
 -- names of a list of the tree, one after another
 abbrev pub all_idents : CodeSeparated CodeIdent → List CodeIdent
@@ -59,3 +59,7 @@ no_declarations = record {
   };
   inner = None;
 }
+
+-- no name is one of which the declaration shows a fault
+abbrev pub IsClear : Scopes → Type 0
+IsClear scopes = (name : List ℕ) → entity_of scopes name ≢ Some unclear

@@ -2,3 +2,4 @@
 pub mod Ends
 pub mod Stopping
 pub mod Answers
+pub mod Constants

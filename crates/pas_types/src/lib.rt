@@ -1,6 +1,7 @@
 //! The scopes and types of Pascal.
 #![tactic(auto)]
 
+mod constants;
 mod judged;
 mod limits;
 mod name_sets;
