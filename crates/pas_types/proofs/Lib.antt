@@ -13,3 +13,4 @@ pub mod NameSetLemmas
 pub mod AnswerLemmas
 pub mod SettleLemmas
 pub mod ConstantLemmas
+pub mod SubrangeLemmas

@@ -1,8 +1,10 @@
 -- The scopes of the code as those of the definition.
-use Rattle.std.specs.Prelude.{◌≢◌, List, [], ◌∷◌, ℕ, map, Option, Some, None, option_map, is_some}
+use Rattle.std.specs.Prelude.{◌≡◌, ◌≢◌, List, [], ◌∷◌, ℕ, map, Option, Some, None, option_map, is_some}
 use Rattle.pas_syntax.specs.declared.tree.Ident.{Ident as CodeIdent}
 use Rattle.pas_syntax.specs.declared.tree.Separated.{Separated as CodeSeparated}
-use Rattle.pas_typed.specs.TypeViews.{table_view}
+use Rattle.pas_typed.specs.declared.types.PasType.{PasType as CodePasType}
+use Rattle.pas_typed.specs.Types.{Made}
+use Rattle.pas_typed.specs.TypeViews.{type_view, table_view}
 use Rattle.pas_typed.specs.TypedViews.{variable_view, heading_view}
 use Rattle.pas_types.specs.declared.scopes.Inner.{Inner as CodeInner}
 use Rattle.pas_types.specs.declared.scopes.KnownRoutine.{KnownRoutine as CodeRoutine}
@@ -63,3 +65,14 @@ no_declarations = record {
 -- no name is one of which the declaration shows a fault
 abbrev pub IsClear : Scopes → Type 0
 IsClear scopes = (name : List ℕ) → entity_of scopes name ≢ Some unclear
+
+-- scopes in which each name stands for the same
+abbrev pub Agrees : Scopes → Scopes → Type 0
+Agrees scopes other = (name : List ℕ) → entity_of scopes name ≡ entity_of other name
+
+-- a type of the code, with the table behind it
+abbrev pub made_view : CodeScopes → CodePasType → Made
+made_view scopes found = record {
+  type = type_view found;
+  table = table_view scopes.spellings.now scopes.types;
+}

@@ -3,3 +3,4 @@ pub mod Ends
 pub mod Stopping
 pub mod Answers
 pub mod Constants
+pub mod TypeAnswers

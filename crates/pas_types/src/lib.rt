@@ -7,6 +7,7 @@ mod limits;
 mod name_sets;
 mod names;
 mod scopes;
+mod simple_types;
 mod stop;
 
 pub use limits::{CELL_LIMIT, GREATEST_LABEL, ROUTINE_CELL_LIMIT, ROUTINE_LIMIT};
