@@ -14,3 +14,4 @@ pub mod AnswerLemmas
 pub mod SettleLemmas
 pub mod ConstantLemmas
 pub mod SubrangeLemmas
+pub mod TypePartLemmas

@@ -9,5 +9,6 @@ mod names;
 mod scopes;
 mod simple_types;
 mod stop;
+mod type_forms;
 
 pub use limits::{CELL_LIMIT, GREATEST_LABEL, ROUTINE_CELL_LIMIT, ROUTINE_LIMIT};

@@ -10,8 +10,9 @@ use Rattle.pas_typed.specs.TypeViews.{range_view}
 use Rattle.pas_types.specs.declared.constants.Ordinal.{Ordinal}
 use Rattle.pas_types.specs.declared.judged.Judged.{Judged as CodeJudged}
 use Rattle.pas_types.specs.declared.stop.Stop.{Stop}
-use Rattle.pas_types.specs.Marks.{Judged}
-use Rattle.pas_types.specs.TypeForms.{fits_below, range_between}
+use Rattle.pas_typed.specs.Types.{file, Made, made}
+use Rattle.pas_types.specs.Marks.{Judged, judged, known, noted}
+use Rattle.pas_types.specs.TypeForms.{fits_below, range_between, component_only}
 use Rattle.pas_types.specs.inner.Stopping.{shown_in}
 use Rattle.pas_types.specs.inner.Answers.{end_in, EndsAs, StopsBy}
 use Rattle.pas_types.specs.inner.Constants.{ordinal_view}
@@ -38,3 +39,9 @@ IsRange low high (Ok range) =
     (fits_below (Some (ordinal_view low)) (ordinal_view high) ≡ [])
     × (range_view range ≡ range_between (ordinal_view low) (ordinal_view high))
 IsRange low high (Err why) = IsShown high.line (fits_below (Some (ordinal_view low)) (ordinal_view high)) why
+
+-- a file of the components of a part, which must be fit for it
+abbrev pub file_part : Judged Made → Judged Made
+file_part part =
+    let component = noted component_only part in
+    judged component.marks (known (λ found. made found.table (file found.type)) component.value)
