@@ -65,9 +65,10 @@ pub named_stops : (Clear : Type 0) (scopes : Scopes) (spellings : List ℕ) (n :
     → Tells Clear (constant_words n (constant_in spellings (code.Named sign ident)))
     (constant_of scopes (constant_in spellings (code.Named sign ident))) (Err why)
 named_stops Clear scopes spellings n sign ident why h =
-    let part : Judged ConstantValue = as_constant (entity_of scopes (ident_in spellings ident).name) in
-    ((λ clear. sign_stops n (sign_in sign) (name_at n (ident_in spellings ident)) part why (h.0 clear)),
-    sign_unknown (sign_in sign) part why h.1)
+    let part : Judged ConstantValue = as_constant (entity_of scopes (ident_in spellings ident).name) in (
+      (λ clear. sign_stops n (sign_in sign) (name_at n (ident_in spellings ident)) part why (h.0 clear)),
+      sign_unknown (sign_in sign) part why h.1,
+    )
 
 -- a number
 pub number_ends : (n : ℕ) (numeral : CodeNumeral) (found : Ordinal) → ordinal_view found ≡ known_value integer

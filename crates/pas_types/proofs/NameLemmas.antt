@@ -114,6 +114,52 @@ small_greatest : IsSmall (pos GREATEST_NUMBER)
 small_greatest = (omega (arith, ints), omega (arith, ints))
 
 pub small_required : AreSmall required
-small_required =
-    (tt, (tt, (tt, (tt, (small_truth.0, (small_truth.1, (small_greatest, (tt, (tt, (tt, (tt, (tt, (tt, (tt, (tt, (tt,
-    (tt, (tt, (tt, (tt, (tt, (tt, tt))))))))))))))))))))))
+small_required = (
+  tt,
+  (
+    tt,
+    (
+      tt,
+      (
+        tt,
+        (
+          small_truth.0,
+          (
+            small_truth.1,
+            (
+              small_greatest,
+              (
+                tt,
+                (
+                  tt,
+                  (
+                    tt,
+                    (
+                      tt,
+                      (
+                        tt,
+                        (
+                          tt,
+                          (
+                            tt,
+                            (
+                              tt,
+                              (
+                                tt,
+                                (tt, (tt, (tt, (tt, (tt, (tt, tt)))))),
+                              ),
+                            ),
+                          ),
+                        ),
+                      ),
+                    ),
+                  ),
+                ),
+              ),
+            ),
+          ),
+        ),
+      ),
+    ),
+  ),
+)

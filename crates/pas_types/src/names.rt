@@ -104,7 +104,9 @@ struct Outside {
 
 // The integers, the chars and the truth values as types.
 const INTEGER: Entity = Entity::Type(PasType::Whole(Base::Integer));
+
 const CHAR: Entity = Entity::Type(PasType::Whole(Base::Char));
+
 const BOOLEAN: Entity = Entity::Type(PasType::Whole(Base::Boolean));
 
 // The required names.

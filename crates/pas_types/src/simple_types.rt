@@ -1,5 +1,5 @@
 //! Names of types and subranges (ISO 7185, 6.4, in this project's profile).
-ghost use Rattle.std.specs.Prelude.{◌≡◌, ◌∷◌, ◌++◌, [], ℕ, OnErr};
+ghost use Rattle.std.specs.Prelude.{◌≡◌, ◌∷◌, ◌++◌, [], ℕ, IfOk, OnErr};
 ghost use Rattle.pas_tokens.specs.declared.kinds.Kind.TheVariants as k;
 ghost use Rattle.pas_syntax.specs.Views.{ident_in, constant_in, simple_in};
 ghost use Rattle.pas_syntax.specs.Words.{at, name_at, constant_words, simple_words};
@@ -7,6 +7,7 @@ ghost use Rattle.pas_typed.specs.TypeViews.{type_view, table_view};
 ghost use Rattle.pas_types.specs.Scopes.{Scopes as SpecScopes};
 ghost use Rattle.pas_types.specs.TypeForms as spec;
 ghost use Rattle.pas_types.specs.ScopeViews.{scopes_view, made_view, IsClear, Agrees};
+ghost use Rattle.pas_types.specs.inner.Answers.{lawful_end, end_in};
 ghost use Rattle.pas_types.specs.inner.TypeAnswers.{no_type_by, AnswersIf, IsRange};
 
 use crate::constants::{Ordinal, constant_of};
@@ -23,9 +24,10 @@ const REAL: &[u8] = b"real";
 
 // The type that a name stands for. `real` is left out where it is not declared.
 pub(crate) fn type_named(scopes: &Scopes<'_>, ident: Ident) -> Result<Judged<PasType>, Stop>
-    ensures { (n : ℕ) → AnswersIf (IsClear (scopes_view scopes.now))
+    ensures answers { (n : ℕ) → AnswersIf (IsClear (scopes_view scopes.now))
         (name_at n (ident_in scopes.now.spellings.now ident) ∷ [])
         (spec.type_named (scopes_view scopes.now) (ident_in scopes.now.spellings.now ident)) type_view result }
+    ensures lawful { IfOk result (λ found. end_in found.end ≡ lawful_end found.end.line) }
 {
     match scopes.named(ident) {
         Some(Entity::Type(pas_type)) => Ok(Judged::lawful(pas_type, ident.line)),
@@ -53,6 +55,7 @@ pub(crate) fn simple_of(scopes: &mut Scopes<'_>, simple: Simple) -> Result<Judge
         (simple_in scopes.old.spellings.now simple)) (made_view scopes.new) result }
     ensures kept { scopes.new ≡ record scopes.old { types = scopes.new.types } }
     ensures err { OnErr result (scopes.new ≡ scopes.old) }
+    ensures lawful { IfOk result (λ found. end_in found.end ≡ lawful_end found.end.line) }
 {
     match simple {
         Simple::Named(ident) => type_named(scopes, ident),
@@ -74,6 +77,7 @@ fn subrange_of(
         (spec.constant_of s (constant_in scopes.old.spellings.now high))) (made_view scopes.new) result }
     ensures kept { scopes.new ≡ record scopes.old { types = scopes.new.types } }
     ensures err { OnErr result (scopes.new ≡ scopes.old) }
+    ensures lawful { IfOk result (λ found. end_in found.end ≡ lawful_end found.end.line) }
 {
     let low = constant_of(scopes, low)?;
     let high = constant_of(scopes, high)?;

@@ -1,21 +1,53 @@
 //! Type expressions (ISO 7185, 6.4, in this project's profile).
 ghost use Rattle.std.specs.Prelude.{◌≡◌, ℕ, List, map, IfOk, OnErr};
 ghost use Rattle.pas_typed.specs.TypeViews.{range_view, type_view, table_view};
-ghost use Rattle.pas_syntax.specs.Words.{Word};
+ghost use Rattle.pas_syntax.specs.Words.{Word, simple_words};
+ghost use Rattle.pas_syntax.specs.Views.{simple_in};
+ghost use Rattle.pas_types.specs.Scopes.{Scopes as SpecScopes};
 ghost use Rattle.pas_typed.specs.Types.{Made};
-ghost use Rattle.pas_types.specs.Marks.{Judged as SpecJudged, noted};
+ghost use Rattle.pas_types.specs.Marks.{Judged as SpecJudged, checked, noted};
 ghost use Rattle.pas_types.specs.TypeForms as spec;
-ghost use Rattle.pas_types.specs.ScopeViews.{made_view};
+ghost use Rattle.pas_types.specs.ScopeViews.{scopes_view, made_view, IsClear, Agrees};
 ghost use Rattle.pas_types.specs.inner.Answers.{end_in, EndsAs, Answers};
-ghost use Rattle.pas_types.specs.inner.TypeAnswers.{file_part};
+ghost use Rattle.pas_types.specs.inner.TypeAnswers.{file_part, IsIndex};
 
 use crate::judged::Judged;
 use crate::limits::CELL_LIMIT;
 use crate::scopes::Scopes;
-use crate::stop::Stop;
-use pas_typed::types::{ArrayParts, PasType, Range, Structure, Table};
+use crate::simple_types::simple_of;
+use crate::stop::{Stop, fault};
+use pas_syntax::tree::Simple;
+use pas_typed::types::{ArrayParts, Base, PasType, Range, Structure, Table};
 use wb_base::OutOfMemory;
-use wb_base::faults::{FILE_RULE, TOO_LARGE};
+use wb_base::faults::{FILE_RULE, TOO_LARGE, WRONG_TYPE};
+
+// The range of an index, of which the type is ordinal, and not all integers.
+fn index_of(scopes: &mut Scopes<'_>, simple: Simple) -> Result<Range, Stop>
+    ensures answers { (s : SpecScopes) → Agrees s (scopes_view scopes.old) → (n : ℕ) → IsIndex (IsClear s)
+        (simple_words n (simple_in scopes.old.spellings.now simple))
+        (checked spec.index_only (spec.simple_of s (table_view scopes.old.spellings.now scopes.old.types)
+        (simple_in scopes.old.spellings.now simple))) (table_view scopes.new.spellings.now scopes.new.types) result }
+    ensures kept { scopes.new ≡ record scopes.old { types = scopes.new.types } }
+{
+    let index = simple_of(scopes, simple)?;
+    match scopes.types.range_of(index.value) {
+        None => Err(fault(WRONG_TYPE, index.end.line)),
+        Some(range) => {
+            if is_whole_integer(index.value) {
+                Err(fault(TOO_LARGE, index.end.line))
+            } else {
+                Ok(range)
+            }
+        }
+    }
+}
+
+// Whether a type is that of all integers.
+fn is_whole_integer(pas_type: PasType) -> bool
+    ensures { result ≡ spec.is_whole_integer (type_view pas_type) }
+{
+    matches!(pas_type, PasType::Whole(Base::Integer))
+}
 
 // A part of a type is no file.
 fn no_file(scopes: &Scopes<'_>, made: Judged<PasType>) -> Judged<PasType>

@@ -10,11 +10,11 @@ use Rattle.pas_typed.specs.TypeViews.{range_view}
 use Rattle.pas_types.specs.declared.constants.Ordinal.{Ordinal}
 use Rattle.pas_types.specs.declared.judged.Judged.{Judged as CodeJudged}
 use Rattle.pas_types.specs.declared.stop.Stop.{Stop}
-use Rattle.pas_typed.specs.Types.{file, Made, made}
+use Rattle.pas_typed.specs.Types.{file, Table, range_of, Made, made}
 use Rattle.pas_types.specs.Marks.{Judged, judged, known, noted}
 use Rattle.pas_types.specs.TypeForms.{fits_below, range_between, component_only}
 use Rattle.pas_types.specs.inner.Stopping.{shown_in}
-use Rattle.pas_types.specs.inner.Answers.{end_in, EndsAs, StopsBy}
+use Rattle.pas_types.specs.inner.Answers.{end_in, EndsAs, StopsBy, Means}
 use Rattle.pas_types.specs.inner.Constants.{ordinal_view}
 
 -- what is answered of a part of which the last word may yet show more. What shows why checking stops is told where
@@ -45,3 +45,10 @@ abbrev pub file_part : Judged Made → Judged Made
 file_part part =
     let component = noted component_only part in
     judged component.marks (known (λ found. made found.table (file found.type)) component.value)
+
+-- an index of an array: its range, with this table behind it
+abbrev pub IsIndex : Type 0 → List Word → Judged Made → Table → Result Range Stop → Type 0
+IsIndex Clear words part table (Ok range) =
+    (index : Made) × (index.table ≡ table) × (range_of table index.type ≡ Some (range_view range))
+    × Means words part index
+IsIndex Clear words part table (Err why) = Clear → StopsBy words part why

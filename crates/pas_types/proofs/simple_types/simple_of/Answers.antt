@@ -17,7 +17,7 @@ returns-in-Named-clause-answers c s same n =
     (simple_of s table (simple_in spellings simple)) (made_view c.args.scopes.now) c.type_named.result)
     (sym c.in-Named.is)
     (named_answers s (scopes_view c.args.scopes.now) same table n (ident_in spellings c.in-Named.ident)
-    c.type_named.result (c.type_named.ensures n))
+    c.type_named.result (c.type_named.ensures.answers n))
 
 pub returns-in-Range-clause-answers : goal.returns-in-Range-clause-answers
 returns-in-Range-clause-answers c s same n =
