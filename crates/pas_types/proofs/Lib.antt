@@ -8,9 +8,14 @@ pub mod RoutinesAsMany
 pub mod CheckLemmas
 pub mod EndLemmas
 pub mod PartLemmas
+pub mod NameLemmas
+pub mod NameSetLemmas
 pub mod AnswerLemmas
 pub mod SettleLemmas
 pub mod LabelLemmas
 pub mod LabelSeen
 pub mod LabelRules
 pub mod NumberLemmas
+pub mod ConstantLemmas
+pub mod SubrangeLemmas
+pub mod TypePartLemmas

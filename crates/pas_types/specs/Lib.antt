@@ -9,4 +9,9 @@ pub mod Declarations
 pub mod Routines
 pub mod Check
 pub mod CheckRows
+pub mod NameViews
+pub mod OutsideViews
+pub mod ScopeViews
+pub mod NamesInside
+pub mod NameSetInside
 pub mod inner

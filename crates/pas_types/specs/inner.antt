@@ -4,3 +4,5 @@ pub mod Stopping
 pub mod Answers
 pub mod LabelViews
 pub mod LabelAnswers
+pub mod Constants
+pub mod TypeAnswers

@@ -1,9 +1,15 @@
 //! The scopes and types of Pascal.
 #![tactic(auto)]
 
+mod constants;
 mod judged;
 mod labels;
 mod limits;
+mod name_sets;
+mod names;
+mod scopes;
+mod simple_types;
 mod stop;
+mod type_forms;
 
 pub use limits::{CELL_LIMIT, GREATEST_LABEL, ROUTINE_CELL_LIMIT, ROUTINE_LIMIT};

@@ -1,0 +1,27 @@
+use Rattle.std.proofs.Common.{◌≡◌, sym, subst, ◌∙◌, ℕ, map, drop, arith}
+use Rattle.pas_typed.specs.Types.{Made}
+use Rattle.pas_typed.specs.TypeViews.{range_view, type_view, table_view}
+use Rattle.pas_types.specs.TypeForms as spec
+use Rattle.pas_types.proofs.TypePartLemmas.{arrays_step}
+use Rattle.pas_types.proofs.type_forms.arrays.Goals as goal
+
+pub loop-left-preserved : goal.loop-left-preserved
+loop-left-preserved c = record {
+  within = omega (arith, c.loop-left.invariant.within);
+  same = λ spellings. sym (c.in_ok-made.ensures.made spellings)
+      ∙ arrays_step (table_view spellings c.args.types.now) c.args.ranges.now c.loop-left.left _
+      (type_view c.args.element)
+      (record { type = type_view c.loop-left.made; table = table_view spellings c.loop-left.types }) (omega arith)
+      c.loop-left.invariant.within (c.loop-left.invariant.same spellings);
+}
+
+pub returns : goal.returns
+returns c spellings =
+    let found : Made = record {
+      type = type_view c.loop-left.made;
+      table = table_view spellings c.loop-left.types;
+    } in
+    let none : c.loop-left.left ≡ 0 = omega arith in
+    subst (λ (n : ℕ). found
+    ≡ spec.arrays (table_view spellings c.args.types.now) (map range_view (drop n c.args.ranges.now))
+    (type_view c.args.element)) none (c.loop-left.invariant.same spellings)
