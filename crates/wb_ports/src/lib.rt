@@ -11,6 +11,7 @@ mod mem_port;
 mod mem_shelf;
 mod mem_sink;
 mod port;
+mod port_box;
 mod quiet_sink;
 mod reading;
 mod shared_writer;

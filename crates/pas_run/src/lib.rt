@@ -1,0 +1,9 @@
+//! Runs Pascal programs.
+#![tactic(auto)]
+
+mod files;
+mod lines;
+mod refusals;
+
+pub use files::{Ahead, FileState, RunFile, Usage};
+pub use refusals::Refused;
