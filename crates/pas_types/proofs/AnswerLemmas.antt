@@ -17,6 +17,7 @@ use Rattle.pas_types.specs.inner.Stopping.{shown_in, found_before}
 use Rattle.pas_types.specs.inner.Answers.{Ending, lawful_end, short_end, noted_end, closed_end, stands_at}
 use Rattle.pas_types.specs.inner.Answers.{settled_at, EndsAs, StopsBy, Answers, Shows}
 use Rattle.pas_types.specs.inner.Answers.{FailsBy, Stands}
+use Rattle.pas_types.specs.inner.Answers.{end_in, stands_by, StandsAs}
 use Rattle.pas_types.proofs.AsMany.{AsMany, behind_word}
 use Rattle.pas_types.proofs.EndLemmas.{end_many, end_faulty, stops_first, stops_within, noted_stops, noted_fine}
 use Rattle.pas_types.proofs.EndLemmas.{noted_refused, checked_stops, checked_fine, last_of_nothing, stops_behind}
@@ -255,3 +256,35 @@ module _ {A X : Type 0} (words : List Word) (part : Judged A) (view : X → A) (
       → ((found : Stop) × (result ≡ Err found) × (found ≡ why)) → FailsBy words part.marks why
       → Stands words part view result
   stands_stop result is h = subst (Stands words part view) (sym (is.1 ∙ ap Err is.2)) h
+
+-- what was noted of a part, as the code has it
+pub noted_found : {A X : Type 0} (words : List Word) (demand : A → List Wrong) (part : Judged A) (view : X → A)
+    (found next : CodeJudged X) (holds : Bool) (code : ℕ) → demand (view found.value) ≡ unless holds (wrong code)
+    → next.value ≡ found.value → end_in next.end ≡ noted_end holds code (end_in found.end)
+    → EndsAs words part (view found.value) (end_in found.end)
+    → EndsAs words (noted demand part) (view next.value) (end_in next.end)
+noted_found words demand part view found next holds code fine same end h =
+    ends_moved words (noted demand part) (view found.value) (view next.value) (noted_end holds code (end_in found.end))
+    (end_in next.end) (ap view same) end
+    (noted_ends words demand part (view found.value) (end_in found.end) holds code fine h)
+
+-- a demand on a part that stands before a word: it stands, or does not
+module _ {A : Type 0} (words : List Word) (demand : A → List Wrong) (part : Judged A) (value : A) (end : Ending)
+    (code : ℕ) where
+  pub checked_fails : (holds : Bool) (why : Stop) → demand value ≡ unless holds (wrong code)
+      → Err why ≡ stands_by (noted_end holds code end) → EndsAs words part value end
+      → FailsBy words (checked demand part).marks why
+  checked_fails holds why fine is h =
+      let last : Ending = noted_end holds code end in
+      subst (λ (marks : Marks). FailsBy words marks why) (sym (checked_marks words demand part))
+      (fails_at words (noted demand part) value last.line last.refusal last.is_short why is
+      (noted_ends words demand part value end holds code fine h))
+
+  pub checked_stands : (holds : Bool) → demand value ≡ unless holds (wrong code)
+      → Ok tt ≡ stands_by (noted_end holds code end) → EndsAs words part value end
+      → StandsAs words (checked demand part) value (noted_end holds code end)
+  checked_stands true fine is h = record {
+    lawful = stands_lawful words part end.line end.refusal is;
+    ends = checked_ends words demand part value end fine h;
+  }
+  checked_stands false fine is h = cc

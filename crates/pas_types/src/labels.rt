@@ -260,7 +260,7 @@ fn label_on_empty(statement: &Statement) -> Option<u32>
 }
 
 // The label of a statement.
-fn label_of(statement: &Statement) -> Option<u32>
+pub(crate) fn label_of(statement: &Statement) -> Option<u32>
     ensures { (spellings : List ℕ) → result ≡ statement_rule.label_of (statement_in spellings statement.now) }
 {
     match statement {
