@@ -9,7 +9,7 @@ use Rattle.pas_typed.specs.Types.{Range, PasType, Table, subrange, Made, made}
 use Rattle.pas_types.specs.declared.constants.Ordinal.{Ordinal}
 use Rattle.pas_types.specs.declared.stop.Stop.{Stop}
 use Rattle.pas_types.specs.Marks.{Judged, checked}
-use Rattle.pas_types.specs.Scopes.{Scopes, entity_of}
+use Rattle.pas_types.specs.Scopes.{Scopes}
 use Rattle.pas_types.specs.TypeForms.{ConstantValue, constant_of, behind_sign, as_constant, fits_below, range_between}
 use Rattle.pas_types.specs.TypeForms.{subrange_of, simple_of, type_named, as_type}
 use Rattle.pas_types.specs.ScopeViews.{IsClear, Agrees}

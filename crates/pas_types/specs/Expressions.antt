@@ -1,6 +1,6 @@
 -- Expressions and variables (ISO 7185, 6.5 and 6.7, in this project's profile): what they mean, and the faults of their
 -- tokens.
-use Rattle.std.specs.Prelude.{ℕ, ◌&&◌, nat_le, pos, Bool, true, false, not, if◌then◌else◌}
+use Rattle.std.specs.Prelude.{ℕ, ◌&&◌, nat_le, pos, Bool, false, not, if◌then◌else◌}
 use Rattle.std.specs.Prelude.{List, [], ◌∷◌, ◌++◌, length, map, codes, Option, Some, None, option_map, option_and_then}
 use Rattle.std.specs.Prelude.{is_some, position, slice_get}
 use Rattle.std.specs.Str.{bytes_eq}
@@ -16,8 +16,8 @@ use Rattle.pas_syntax.specs.Tree as tree
 use Rattle.pas_syntax.specs.Tree.{Ident, Expr, Sum, Term, Factor, Exprs}
 use Rattle.pas_types.specs.Marks.{Marks, no_token, quiet, shows, at_first, with_behind, joined, listed, unless}
 use Rattle.pas_types.specs.Marks.{Judged, judged, means, refuses, known, both, checked, noted}
-use Rattle.pas_typed.specs.Types.{Base, integer, char, boolean, same_base, PasType, whole, text, same_type}
-use Rattle.pas_typed.specs.Types.{Field, ArrayParts, Table, range_of, component_of, elements_of, fields_of}
+use Rattle.pas_typed.specs.Types.{Base, integer, boolean, PasType, text, same_type}
+use Rattle.pas_typed.specs.Types.{Field, ArrayParts, Table, component_of, elements_of, fields_of}
 use Rattle.pas_typed.specs.Typed as typed
 use Rattle.pas_typed.specs.Typed.{Function, FileTest, Mode, by_name, Variable, Slot, Value, Place, Passed, Heading}
 use Rattle.pas_types.specs.Scopes.{Entity, constant, variable, routine, function, file_test, unclear, Scopes}

@@ -1,7 +1,7 @@
 -- Constants and type expressions (ISO 7185, 6.3 and 6.4, in this project's profile): what they mean, and the faults of
 -- their tokens.
-use Rattle.std.specs.Prelude.{ℕ, ◌==◌, ◌&&◌, nat_le, ℤ, pos, neg_ℤ, int_le, Bool, true, false, not}
-use Rattle.std.specs.Prelude.{if◌then◌else◌, List, [], ◌∷◌, ◌++◌, length, map, codes, Option, Some, None, option_map}
+use Rattle.std.specs.Prelude.{ℕ, ◌==◌, nat_le, ℤ, pos, neg_ℤ, int_le, Bool, true, false, not}
+use Rattle.std.specs.Prelude.{if◌then◌else◌, List, [], ◌∷◌, ◌++◌, map, codes, Option, Some, None, option_map}
 use Rattle.std.specs.Prelude.{is_some, unwrap_or, option_to_list}
 use Rattle.std.specs.Str.{bytes_eq}
 use Rattle.wb_base.specs.declared.faults.TheConstants.{UNKNOWN_NAME, WRONG_TYPE, CONSTANT_OUT_OF_RANGE, TOO_LARGE}
@@ -16,9 +16,8 @@ use Rattle.pas_types.specs.declared.limits.TheConstants.{CELL_LIMIT}
 use Rattle.pas_types.specs.Marks.{Marks, no_token, quiet, joined, unless, Judged, judged, means}
 use Rattle.pas_types.specs.Marks.{refuses}
 use Rattle.pas_types.specs.Marks.{known, both, checked, noted}
-use Rattle.pas_typed.specs.Types.{Base, integer, char, same_base, Range, PasType, whole, row, Field, Structure}
+use Rattle.pas_typed.specs.Types.{Base, integer, char, same_base, Range, PasType, whole, Field}
 use Rattle.pas_typed.specs.Types.{subrange, array, fields, file, Table, range_of, component_of, cells_of}
-use Rattle.pas_typed.specs.Types.{cells_in}
 use Rattle.pas_types.specs.Scopes.{Entity, constant, type, unclear, Scopes, entity_of, spellings_of}
 use Rattle.pas_types.specs.Scopes.{new_names}
 use Rattle.pas_typed.specs.Types.{is_component, Made, made}

@@ -1,5 +1,5 @@
 use Rattle.std.proofs.lemmas.Result.{err_from_is_err_and}
-use Rattle.std.proofs.Common.{◌≡◌, refl, sym, ap, subst, ◌∙◌, ℕ, List, Ok, Err}
+use Rattle.std.proofs.Common.{sym, ap, subst, ◌∙◌, Err}
 use Rattle.pas_syntax.specs.declared.tree.Constant.{Constant as CodeConstant}
 use Rattle.pas_syntax.specs.declared.tree.Constant.TheVariants as code
 use Rattle.pas_syntax.specs.Words.{number_at, name_at, constant_words, words_if, constant_sign}

@@ -1,5 +1,4 @@
-use Rattle.std.proofs.Common.{rules, ◌≡◌, length, arith}
-use Rattle.std.specs.Prelude.{◌≢◌}
+use Rattle.std.proofs.Common.{rules, arith}
 use Rattle.pas_types.proofs.ConstantLemmas.{quote_twice, two_bytes, many_bytes}
 use Rattle.pas_types.proofs.constants.single_byte.Goals as goal
 

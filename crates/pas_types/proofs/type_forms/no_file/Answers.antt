@@ -1,4 +1,4 @@
-use Rattle.std.proofs.Common.{◌≡◌, ap, Bool, not}
+use Rattle.std.proofs.Common.{ap, Bool, not}
 use Rattle.wb_base.specs.declared.faults.TheConstants.{FILE_RULE}
 use Rattle.pas_tokens.specs.Cutting.{wrong}
 use Rattle.pas_types.specs.Marks.{noted, unless}
