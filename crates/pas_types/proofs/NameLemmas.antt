@@ -1,5 +1,6 @@
 -- What a table of names answers.
-use Rattle.std.proofs.Common.{◌≡◌, refl, sym, ap, ◌∙◌, ℕ, Bool, true, false, cond, List, [], ◌∷◌, ◌++◌, map, Option, Some, None, is_some, ◌||◌}
+use Rattle.std.proofs.Common.{◌≡◌, refl, sym, ap, ◌∙◌, ℕ, Bool, true, false, cond, List, [], ◌∷◌, ◌++◌, map}
+use Rattle.std.proofs.Common.{Option, Some, None, is_some, ◌||◌}
 use Rattle.std.specs.Prelude.{option_map, if◌then◌else◌, find}
 use Rattle.std.specs.Borrow.{Bor}
 use Rattle.std.specs.Cmp.Lexicographic.{nat_list_eq_equiv}
@@ -71,7 +72,8 @@ inserted key entity entries new =
     (absent_from_lookup (is_key key.now) entries
     (none_found (lookup (is_key key.now) entries) (some_lookup key.now entries ∙ new))))
     ∙ map-append named_view entries ((key, entity) ∷ [])
-    ∙ sym (ap (λ b. if b then map named_view entries else map named_view entries ++ names key.now (entity_view entity) ∷ [])
+    ∙ sym (ap (λ b. if b then map named_view entries
+    else map named_view entries ++ names key.now (entity_view entity) ∷ [])
     new)
 
 -- constants that are small

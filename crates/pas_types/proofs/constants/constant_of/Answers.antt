@@ -23,7 +23,9 @@ returns-in-Number-clause-tells c n =
     (constant_words n (constant_in c.args.scopes.now.spellings.now found))
     (constant_of (scopes_view c.args.scopes.now) (constant_in c.args.scopes.now.spellings.now found))
     c.behind_sign.result) (sym c.in-Number.is)
-    (told (IsClear (scopes_view c.args.scopes.now)) (words_if (constant_sign n) lead ++ number_at n (numeral_in c.in-Number.numeral) ∷ []) (behind_sign lead part)
+    (told (IsClear (scopes_view c.args.scopes.now))
+    (words_if (constant_sign n) lead ++ number_at n (numeral_in c.in-Number.numeral) ∷ [])
+    (behind_sign lead part)
     c.behind_sign.result
     (c.behind_sign.ensures.tells n (number_at n (numeral_in c.in-Number.numeral)) part
     (sym (ap (λ (found : Ordinal). found.line) c.number.ensures.value))
@@ -58,7 +60,9 @@ returns-in_ok-constant_named-in-Named-clause-tells c n =
     (constant_words n (constant_in c.args.scopes.now.spellings.now found))
     (constant_of (scopes_view c.args.scopes.now) (constant_in c.args.scopes.now.spellings.now found))
     c.behind_sign-in-Named.result) (sym c.in-Named.is)
-    (told (IsClear (scopes_view c.args.scopes.now)) (words_if (constant_sign n) lead ++ name_at n ident ∷ []) (behind_sign lead part)
+    (told (IsClear (scopes_view c.args.scopes.now))
+    (words_if (constant_sign n) lead ++ name_at n ident ∷ [])
+    (behind_sign lead part)
     c.behind_sign-in-Named.result
     (c.behind_sign-in-Named.ensures.tells n (name_at n ident) part
     (sym c.in_ok-constant_named-in-Named.ensures.line)

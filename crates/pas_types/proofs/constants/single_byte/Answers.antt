@@ -9,4 +9,5 @@ pub returns-in_default : goal.returns-in_default
 returns-in_default c = two_bytes c.args.text.now (search rules) (search rules)
 
 pub returns-in_default-2 : goal.returns-in_default-2
-returns-in_default-2 c = many_bytes c.args.text.now (λ one. omega (arith, c.in_default)) (λ two. omega (arith, c.in_default))
+returns-in_default-2 c =
+    many_bytes c.args.text.now (λ one. omega (arith, c.in_default)) (λ two. omega (arith, c.in_default))
