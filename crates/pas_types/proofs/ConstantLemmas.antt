@@ -1,15 +1,13 @@
 -- What functions on constants answer.
-use Rattle.std.proofs.Common.{◌≡◌, refl, sym, ap, subst, ◌∙◌, ℕ, pos, Bool, true, false, cond, List, [], ◌∷◌, ◌++◌}
+use Rattle.std.proofs.Common.{◌≡◌, refl, sym, ap, ℕ, pos, Bool, true, false, List, [], ◌∷◌, ◌++◌}
 use Rattle.std.proofs.Common.{length, Option, Some, None, Result, Ok, Err, arith}
 use Rattle.std.specs.Prelude.{⊤, ◌==◌, ◌≢◌, slice_index_or}
 use Rattle.std.proofs.lemmas.Bool.Decides.{nat_tests}
-use Rattle.wb_base.specs.declared.faults.TheConstants.{WRONG_TYPE}
-use Rattle.pas_tokens.specs.Cutting.{Wrong, wrong}
+use Rattle.pas_tokens.specs.Cutting.{Wrong}
 use Rattle.pas_syntax.specs.declared.operators.Sign.{Sign}
 use Rattle.pas_syntax.specs.declared.tree.Ident.{Ident as CodeIdent}
 use Rattle.pas_syntax.specs.declared.tree.Numeral.{Numeral as CodeNumeral}
 use Rattle.pas_syntax.specs.declared.tree.Lined.{Lined as CodeLined}
-use Rattle.pas_syntax.specs.declared.tree.Constant.{Constant as CodeConstant}
 use Rattle.pas_syntax.specs.declared.tree.Constant.TheVariants as code
 use Rattle.pas_syntax.specs.Tree.{Lined}
 use Rattle.pas_syntax.specs.Words.{Word, at, name_at, number_at, words_if, constant_sign, constant_words, sign_kind}

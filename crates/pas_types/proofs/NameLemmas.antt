@@ -1,10 +1,10 @@
 -- What a table of names answers.
-use Rattle.std.proofs.Common.{◌≡◌, refl, sym, ap, ◌∙◌, ℕ, Bool, true, false, cond, List, [], ◌∷◌, ◌++◌, map, Option, Some, None, is_some, ◌||◌}
-use Rattle.std.specs.Prelude.{option_map, if◌then◌else◌, nat_eq, find}
+use Rattle.std.proofs.Common.{◌≡◌, refl, sym, ap, ◌∙◌, ℕ, Bool, true, false, cond, List, [], ◌∷◌, ◌++◌, map}
+use Rattle.std.proofs.Common.{Option, Some, None, is_some, ◌||◌}
+use Rattle.std.specs.Prelude.{option_map, if◌then◌else◌, find}
 use Rattle.std.specs.Borrow.{Bor}
 use Rattle.std.specs.Cmp.Lexicographic.{nat_list_eq_equiv}
 use Rattle.std.specs.Str.{bytes_eq}
-use Rattle.std.specs.List.{list_any}
 use Rattle.std.specs.Map.{lookup}
 use Rattle.std.proofs.lemmas.List.{map-append}
 use Rattle.indexmap.specs.IndexMap.{insert_entry}
@@ -72,7 +72,8 @@ inserted key entity entries new =
     (absent_from_lookup (is_key key.now) entries
     (none_found (lookup (is_key key.now) entries) (some_lookup key.now entries ∙ new))))
     ∙ map-append named_view entries ((key, entity) ∷ [])
-    ∙ sym (ap (λ b. if b then map named_view entries else map named_view entries ++ names key.now (entity_view entity) ∷ [])
+    ∙ sym (ap (λ b. if b then map named_view entries
+    else map named_view entries ++ names key.now (entity_view entity) ∷ [])
     new)
 
 -- constants that are small

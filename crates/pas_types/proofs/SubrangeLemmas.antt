@@ -1,5 +1,6 @@
 -- What is found of a subrange, by what was found of its bounds.
-use Rattle.std.proofs.Common.{◌≡◌, refl, sym, ap, subst, ◌∙◌, ℕ, false, List, [], ◌∷◌, ◌++◌, Option, Some, None, Result, Ok, Err}
+use Rattle.std.proofs.Common.{◌≡◌, refl, sym, ap, subst, ◌∙◌, ℕ, false, List, [], ◌∷◌, ◌++◌, Option}
+use Rattle.std.proofs.Common.{Some, None, Result, Ok, Err}
 use Rattle.pas_tokens.specs.Cutting.{Wrong}
 use Rattle.pas_tokens.specs.declared.kinds.Kind.TheVariants as k
 use Rattle.pas_syntax.specs.Tree as tree
@@ -9,7 +10,7 @@ use Rattle.pas_typed.specs.Types.{Range, PasType, Table, subrange, Made, made}
 use Rattle.pas_types.specs.declared.constants.Ordinal.{Ordinal}
 use Rattle.pas_types.specs.declared.stop.Stop.{Stop}
 use Rattle.pas_types.specs.Marks.{Judged, checked}
-use Rattle.pas_types.specs.Scopes.{Scopes, entity_of}
+use Rattle.pas_types.specs.Scopes.{Scopes}
 use Rattle.pas_types.specs.TypeForms.{ConstantValue, constant_of, behind_sign, as_constant, fits_below, range_between}
 use Rattle.pas_types.specs.TypeForms.{subrange_of, simple_of, type_named, as_type}
 use Rattle.pas_types.specs.ScopeViews.{IsClear, Agrees}
@@ -24,7 +25,8 @@ use Rattle.pas_types.proofs.AsMany.{AsMany, checked_many}
 use Rattle.pas_types.proofs.TypesAsMany.{constant_many}
 use Rattle.pas_types.proofs.EndLemmas.{checked_fine, checked_refused}
 use Rattle.pas_types.proofs.PartLemmas.{pair}
-use Rattle.pas_types.proofs.AnswerLemmas.{checked_stops_by, made_ends, made_stops, pair_stops, pair_second, pair_ends_as}
+use Rattle.pas_types.proofs.AnswerLemmas.{checked_stops_by, made_ends, made_stops, pair_stops, pair_second}
+use Rattle.pas_types.proofs.AnswerLemmas.{pair_ends_as}
 
 -- scopes that agree
 pub clear_agrees : (s t : Scopes) → Agrees s t → IsClear s → IsClear t
@@ -32,13 +34,15 @@ clear_agrees s t same clear name is = clear name (same name ∙ is)
 
 pub constant_agrees : (s t : Scopes) → Agrees s t → (found : Constant) → constant_of s found ≡ constant_of t found
 constant_agrees s t same (tree.number lead numeral) = refl
-constant_agrees s t same (tree.named lead ident) = ap (λ entity. behind_sign lead (as_constant entity)) (same ident.name)
+constant_agrees s t same (tree.named lead ident) =
+    ap (λ entity. behind_sign lead (as_constant entity)) (same ident.name)
 constant_agrees s t same (tree.text quoted) = refl
 
 pub tells_agrees : (s t : Scopes) → Agrees s t → (words : List Word) (found : Constant) (result : Result Ordinal Stop)
     → Tells (IsClear t) words (constant_of t found) result → Tells (IsClear s) words (constant_of s found) result
 tells_agrees s t same words found (Ok value) h =
-    subst (λ (part : Judged ConstantValue). Tells (IsClear t) words part (Ok value)) (sym (constant_agrees s t same found)) h
+    subst (λ (part : Judged ConstantValue). Tells (IsClear t) words part (Ok value))
+    (sym (constant_agrees s t same found)) h
 tells_agrees s t same words found (Err why) h =
     let moved = subst (λ (part : Judged ConstantValue). Tells (IsClear t) words part (Err why))
     (sym (constant_agrees s t same found)) h in
@@ -129,7 +133,8 @@ named_answers s t same table n ident (Ok found) h =
     (subst (λ (part : Judged PasType). EndsAs (name_at n ident ∷ []) part (type_view found.value) (end_in found.end))
     (sym (type_agrees s t same ident)) h)
 named_answers s t same table n ident (Err why) h =
-    λ clear. made_stops (name_at n ident ∷ []) (λ (type : PasType). record { type = type; table = table }) (type_named s ident)
+    λ clear. made_stops (name_at n ident ∷ []) (λ (type : PasType). record { type = type; table = table })
+    (type_named s ident)
     why
     (subst (λ (part : Judged PasType). StopsBy (name_at n ident ∷ []) part why) (sym (type_agrees s t same ident))
     (h (clear_agrees s t same clear)))

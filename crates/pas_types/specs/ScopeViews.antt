@@ -1,5 +1,5 @@
 -- The scopes of the code as those of the definition.
-use Rattle.std.specs.Prelude.{◌≡◌, ◌≢◌, List, [], ◌∷◌, ℕ, map, Option, Some, None, option_map, is_some}
+use Rattle.std.specs.Prelude.{◌≡◌, ◌≢◌, List, [], ◌∷◌, ℕ, map, Some, None, option_map, is_some}
 use Rattle.pas_syntax.specs.declared.tree.Ident.{Ident as CodeIdent}
 use Rattle.pas_syntax.specs.declared.tree.Separated.{Separated as CodeSeparated}
 use Rattle.pas_typed.specs.declared.types.PasType.{PasType as CodePasType}

@@ -77,7 +77,8 @@ fn behind_sign(sign: Option<Lined<Sign>>, found: Ordinal) -> Result<Ordinal, Sto
     requires { IsSmall found.value }
     ensures tells { (n : ℕ) (word : Word) (part : SpecJudged spec.ConstantValue) → word.token.line ≡ found.line
         → EndsAs (word ∷ []) part (ordinal_view found) (lawful_end found.line)
-        → Tells ⊤ (words_if (constant_sign n) (sign_in sign) ++ word ∷ []) (spec.behind_sign (sign_in sign) part) result }
+        → Tells ⊤ (words_if (constant_sign n) (sign_in sign) ++ word ∷ [])
+        (spec.behind_sign (sign_in sign) part) result }
     ensures small { IfOk result (λ found. IsSmall found.value) }
 {
     match sign {

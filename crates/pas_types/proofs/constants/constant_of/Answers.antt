@@ -1,5 +1,5 @@
 use Rattle.std.proofs.lemmas.Result.{err_from_is_err_and}
-use Rattle.std.proofs.Common.{◌≡◌, refl, sym, ap, subst, ◌∙◌, ℕ, List, Ok, Err}
+use Rattle.std.proofs.Common.{sym, ap, subst, ◌∙◌, Err}
 use Rattle.pas_syntax.specs.declared.tree.Constant.{Constant as CodeConstant}
 use Rattle.pas_syntax.specs.declared.tree.Constant.TheVariants as code
 use Rattle.pas_syntax.specs.Words.{number_at, name_at, constant_words, words_if, constant_sign}
@@ -23,7 +23,9 @@ returns-in-Number-clause-tells c n =
     (constant_words n (constant_in c.args.scopes.now.spellings.now found))
     (constant_of (scopes_view c.args.scopes.now) (constant_in c.args.scopes.now.spellings.now found))
     c.behind_sign.result) (sym c.in-Number.is)
-    (told (IsClear (scopes_view c.args.scopes.now)) (words_if (constant_sign n) lead ++ number_at n (numeral_in c.in-Number.numeral) ∷ []) (behind_sign lead part)
+    (told (IsClear (scopes_view c.args.scopes.now))
+    (words_if (constant_sign n) lead ++ number_at n (numeral_in c.in-Number.numeral) ∷ [])
+    (behind_sign lead part)
     c.behind_sign.result
     (c.behind_sign.ensures.tells n (number_at n (numeral_in c.in-Number.numeral)) part
     (sym (ap (λ (found : Ordinal). found.line) c.number.ensures.value))
@@ -58,7 +60,9 @@ returns-in_ok-constant_named-in-Named-clause-tells c n =
     (constant_words n (constant_in c.args.scopes.now.spellings.now found))
     (constant_of (scopes_view c.args.scopes.now) (constant_in c.args.scopes.now.spellings.now found))
     c.behind_sign-in-Named.result) (sym c.in-Named.is)
-    (told (IsClear (scopes_view c.args.scopes.now)) (words_if (constant_sign n) lead ++ name_at n ident ∷ []) (behind_sign lead part)
+    (told (IsClear (scopes_view c.args.scopes.now))
+    (words_if (constant_sign n) lead ++ name_at n ident ∷ [])
+    (behind_sign lead part)
     c.behind_sign-in-Named.result
     (c.behind_sign-in-Named.ensures.tells n (name_at n ident) part
     (sym c.in_ok-constant_named-in-Named.ensures.line)

@@ -1,4 +1,4 @@
-use Rattle.std.proofs.Common.{◌≡◌, sym, subst, Option, IfSome}
+use Rattle.std.proofs.Common.{sym, subst, Option, IfSome}
 use Rattle.pas_types.specs.Scopes.{Entity, required}
 use Rattle.pas_types.specs.NameViews.{IsSmallEntity}
 use Rattle.pas_types.proofs.NameLemmas.{small_in, small_view, small_required}

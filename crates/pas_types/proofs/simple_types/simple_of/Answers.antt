@@ -1,4 +1,4 @@
-use Rattle.std.proofs.Common.{◌≡◌, sym, subst}
+use Rattle.std.proofs.Common.{sym, subst}
 use Rattle.pas_syntax.specs.declared.tree.Simple.{Simple as CodeSimple}
 use Rattle.pas_syntax.specs.Views.{ident_in, simple_in}
 use Rattle.pas_syntax.specs.Words.{simple_words}

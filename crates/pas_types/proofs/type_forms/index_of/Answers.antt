@@ -1,4 +1,4 @@
-use Rattle.std.proofs.Common.{◌≡◌, refl, sym, ap, subst, ◌∙◌, List, Err}
+use Rattle.std.proofs.Common.{refl, sym, ap, subst, ◌∙◌, List, Err}
 use Rattle.std.proofs.lemmas.Result.{err_from_is_err_and}
 use Rattle.pas_syntax.specs.Views.{simple_in}
 use Rattle.pas_syntax.specs.Words.{Word, simple_words}

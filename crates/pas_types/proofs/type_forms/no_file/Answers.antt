@@ -1,4 +1,4 @@
-use Rattle.std.proofs.Common.{◌≡◌, ap, Bool, not}
+use Rattle.std.proofs.Common.{ap, Bool, not}
 use Rattle.wb_base.specs.declared.faults.TheConstants.{FILE_RULE}
 use Rattle.pas_tokens.specs.Cutting.{wrong}
 use Rattle.pas_types.specs.Marks.{noted, unless}
@@ -16,4 +16,5 @@ returns-clause-ends c words part h =
     (noted_end (not c.is_file-is_file.result) FILE_RULE end) (end_in c.noted.result.end)
     (ap (made_view c.args.scopes.now) c.noted.ensures.value) c.noted.ensures.end
     (noted_ends words no_file part value end (not c.is_file-is_file.result) FILE_RULE
-    (ap (λ (is : Bool). unless (not is) (wrong FILE_RULE)) (c.is_file-is_file.ensures c.args.scopes.now.spellings.now)) h)
+    (ap (λ (is : Bool). unless (not is) (wrong FILE_RULE))
+    (c.is_file-is_file.ensures c.args.scopes.now.spellings.now)) h)

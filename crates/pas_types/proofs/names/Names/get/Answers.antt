@@ -8,7 +8,8 @@ use Rattle.pas_types.proofs.names.Names.get.Goals as goal
 
 pub returns-clause-entity : goal.returns-clause-entity
 returns-clause-entity c =
-    subst (λ (held : List Named). option_map entity_view c.copied.result ≡ entity_in held c.args.name.now) c.self.view_is
+    subst (λ (held : List Named). option_map entity_view c.copied.result ≡ entity_in held c.args.name.now)
+    c.self.view_is
     (ap (option_map entity_view) (c.copied.ensures ∙ c.get.ensures.value)
     ∙ lookup_view c.args.name.now c.self.inside.entities.entries)
 

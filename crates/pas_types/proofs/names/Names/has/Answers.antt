@@ -1,4 +1,4 @@
-use Rattle.std.proofs.Common.{◌≡◌, ap, subst, ◌∙◌, List}
+use Rattle.std.proofs.Common.{◌≡◌, subst, ◌∙◌, List}
 use Rattle.pas_types.specs.Scopes.{Named, names_of, contains}
 use Rattle.pas_types.proofs.NameLemmas.{some_lookup}
 use Rattle.pas_types.proofs.names.Names.has.Goals as goal
