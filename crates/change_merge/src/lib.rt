@@ -13,4 +13,3 @@ pub use change_list::{Changes, parse_changes};
 pub use cutting::lines;
 pub use line_list::Lines;
 pub use merging::merge;
-

@@ -14,4 +14,3 @@ pub use items::Item;
 pub use limits::{LEVEL_LIMIT, STEP_LIMIT};
 pub use refusals::ExpandErr;
 pub use stream::Stream;
-

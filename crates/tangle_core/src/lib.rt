@@ -12,4 +12,3 @@ mod writing;
 pub use emitting::{EmitErr, expand_to};
 pub use job::{Done, Job, TangleErr, TextCopy};
 pub use tangling::tangle;
-

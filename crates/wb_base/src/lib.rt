@@ -18,4 +18,3 @@ pub use options::{Case, Options};
 pub use places::{FileTag, Place};
 pub use tokens::{Joined, Tok};
 pub use word_list::Words;
-

@@ -15,4 +15,3 @@ pub use codes::{Code, control_code};
 pub use reader::Reader;
 pub use section_names::SectionName;
 pub use tokens::Lexed;
-

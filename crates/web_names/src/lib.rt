@@ -12,4 +12,3 @@ pub use forms::printed_letter;
 pub use name_errors::NameErr;
 pub use names::Names;
 pub use sections::Sections;
-

@@ -13,4 +13,3 @@ pub use listing::pooltype;
 pub use pool::Pool;
 pub use refusals::{PoolErr, PoolTypeErr};
 pub use writing::write_pool;
-

@@ -18,4 +18,3 @@ pub use limits::{SECTION_LIMIT, TOKEN_LIMIT};
 pub use pieces::Piece;
 pub use scanning::scan;
 pub use web::Web;
-
