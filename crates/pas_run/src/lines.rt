@@ -8,7 +8,7 @@ ghost use Rattle.pas_run.specs.RunFiles.{Puts, Pieces, Appends, Demands, is_port
 
 use crate::Refused;
 use crate::files::{LINE_END, RunFile, Usage};
-use pas_meaning::{UNDEFINED_BUFFER, WIDTH_BELOW_1, WRONG_MODE};
+use pas_meaning::{UNDEFINED_BUFFER, WIDTH_BELOW_1, WRONG_MODE, write_int};
 use wb_ports::{Failed, Port};
 
 // The byte that fills a field.
@@ -29,6 +29,20 @@ impl<P: Port> RunFile<P> {
         self.port.put(byte)?;
         self.state.buffer = None;
         Ok(())
+    }
+
+    /// Writes a number on a text in a field of this width.
+    pub fn write_number(&mut self, number: i32, width: i32) -> Result<(), Refused>
+        ensures step { Appends (files.written (λ field. files.number_in_field field number) width) self.old.state
+            (P.told self.old.port) self.new.state (P.told self.new.port) result }
+        ensures cause { CountsFailure (is_port_failed result) (P.failures self.old.port) (P.failures self.new.port) }
+    {
+        self.demand_text(width)?;
+        let text = write_int(i64::from(number), i64::from(width));
+        match self.put_field(text.spaces.unsigned_abs() as usize, text.digits.as_slice()) {
+            Ok(()) => Ok(()),
+            Err(_) => Err(Refused::Failed),
+        }
     }
 
     /// Writes a byte on a text in a field of this width.
