@@ -1,5 +1,7 @@
 -- A file that is written through its port.
 use Rattle.std.proofs.Common.{◌≡◌, ◌⊎◌, inl, inr, ⊎_elim, ℕ, ◌+◌, List, [], ◌∷◌, ◌++◌, take, Option, Some, None, sym, ap, ◌∙◌, subst, append_assoc, append-nil}
+use Rattle.std.proofs.Common.{replicate, min, ◌-◌}
+use Rattle.std.proofs.lemmas.List.{length-take}
 use Rattle.std.proofs.lemmas.Bool.{cases_lt}
 use Rattle.std.proofs.lemmas.List.{take-append-le, take_all}
 use Rattle.std.proofs.Math.Seq.{take-append_seam, take-append-add}
@@ -94,3 +96,18 @@ appended bytes_for more before now told tells e p = record { each = λ bound fil
 
 pub partly : (bytes_for : File → Answer (List ℕ)) (more : List ℕ) (before now : FileState) (told tells : Option PortState) (failed : Failed) → ((bound : PortState) (file : File) → IsFile bound before told file → bytes_for file ≡ fine more) → Pieces more before told now tells (Err failed) → Appends bytes_for before told now tells (Err RefusedFailed)
 partly bytes_for more before now told tells failed e p = record { each = λ bound file h. let s = p.each bound file h in (more, s.0, e bound file h, s.1) }
+
+cut : (field : ℕ) (bytes : List ℕ) → take (min field (length bytes)) bytes ≡ take field bytes
+cut field bytes =
+    ⊎_elim
+    (λ (l : field < length bytes). let e : min field (length bytes) ≡ field = omega (arith, l) in ap (λ n. take n bytes) e)
+    (λ (l : length bytes ≤ field). let e : min field (length bytes) ≡ length bytes = omega (arith, l) in
+    ap (λ n. take n bytes) e ∙ take_all (length bytes) bytes (omega arith) ∙ sym (take_all field bytes l))
+    (cases_lt field (length bytes))
+
+-- a string in a field, which is cut where it is longer
+pub field_of : (field : ℕ) (bytes : List ℕ) → replicate (field - min field (length bytes)) 32 ++ take (min field (length bytes)) bytes ≡ files.string_in_field field bytes
+field_of field bytes =
+    let l : length (take field bytes) ≡ min field (length bytes) = length-take field bytes in
+    ap (λ n. replicate (field - n) 32 ++ take (min field (length bytes)) bytes) (sym l)
+    ∙ ap (λ x. replicate (field - length (take field bytes)) 32 ++ x) (cut field bytes)

@@ -45,6 +45,21 @@ impl<P: Port> RunFile<P> {
         }
     }
 
+    /// Writes a string on a text in a field of this width, which cuts it where it is longer.
+    pub fn write_text(&mut self, bytes: &[u8], width: i32) -> Result<(), Refused>
+        ensures step { Appends (files.written (λ field. files.string_in_field field bytes.now) width) self.old.state
+            (P.told self.old.port) self.new.state (P.told self.new.port) result }
+        ensures cause { CountsFailure (is_port_failed result) (P.failures self.old.port) (P.failures self.new.port) }
+    {
+        self.demand_text(width)?;
+        let field = width.unsigned_abs() as usize;
+        let count = field.min(bytes.len());
+        match self.put_field(field - count, &bytes[..count]) {
+            Ok(()) => Ok(()),
+            Err(_) => Err(Refused::Failed),
+        }
+    }
+
     /// Writes a byte on a text in a field of this width.
     pub fn write_char(&mut self, byte: u8, width: i32) -> Result<(), Refused>
         ensures step { Appends (files.written (λ field. files.char_in_field field byte) width) self.old.state
