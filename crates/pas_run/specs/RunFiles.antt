@@ -75,7 +75,8 @@ pub record Asks {A T : Type 0} (question : File → Answer A) (seen : T → A) (
 abbrev pub with_more : List ℕ → File → File
 with_more more file = record file { bytes = file.bytes ++ more }
 
-abbrev pub Appended : Answer (List ℕ) → (File → Type 0) → (List ℕ → Type 0) → File → Result (Unit {0}) Refused → Type 0
+abbrev pub Appended :
+    Answer (List ℕ) → (File → Type 0) → (List ℕ → Type 0) → File → Result (Unit {0}) Refused → Type 0
 Appended answer is_now shows file (Ok value) =
     (more : List ℕ) × (answer ≡ fine more) × is_now (with_more more file)
 Appended answer is_now shows file (Err (Wrong kind)) = (answer ≡ wrong kind) × is_now file
@@ -144,7 +145,8 @@ pub record Rewrites (before : FileState) (told : Option PortState) (now : FileSt
       → Rewritten (λ shown. Shows shown tells) (IsFile bound now tells) file result
 
 -- pieces that are appended to a file which is written; after a failed call a first part of them is there
-abbrev pub Pieced : {T : Type 0} → List ℕ → (File → Type 0) → (List ℕ → Type 0) → File → Result (Unit {0}) T → Type 0
+abbrev pub Pieced :
+    {T : Type 0} → List ℕ → (File → Type 0) → (List ℕ → Type 0) → File → Result (Unit {0}) T → Type 0
 Pieced more is_now shows file (Ok value) = is_now (with_more more file)
 Pieced more is_now shows file (Err failure) = (count : ℕ) × shows (file.bytes ++ take count more)
 
@@ -170,9 +172,11 @@ pub record Puts (before : FileState) (told : Option PortState) (now : FileState)
 
 -- what is demanded before something is written on a text in a field of a width
 abbrev pub Demanded : ℤ → File → Result (Unit {0}) Refused → Type 0
-Demanded width file (Ok value) = (bytes_for : ℕ → List ℕ) → written bytes_for width file ≡ fine (bytes_for (nat_abs width))
+Demanded width file (Ok value) =
+    (bytes_for : ℕ → List ℕ) → written bytes_for width file ≡ fine (bytes_for (nat_abs width))
 Demanded width file (Err (Wrong kind)) = (bytes_for : ℕ → List ℕ) → written bytes_for width file ≡ wrong kind
 Demanded width file (Err Failed) = ⊥
 
-pub record Demands (width : ℤ) (state : FileState) (told : Option PortState) (result : Result (Unit {0}) Refused) : Type 0 where
+pub record Demands (width : ℤ) (state : FileState) (told : Option PortState)
+    (result : Result (Unit {0}) Refused) : Type 0 where
   pub each : (bound : PortState) (file : File) → IsFile bound state told file → Demanded width file result
