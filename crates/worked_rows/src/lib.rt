@@ -21,6 +21,8 @@ mod pascal_tokens;
 #[cfg(test)]
 mod pools;
 #[cfg(test)]
+mod run_files;
+#[cfg(test)]
 mod scans;
 #[cfg(test)]
 mod tangled;
