@@ -1,6 +1,7 @@
 -- How the files of a run are kept: each is read through a port, byte by byte, with one byte looked at before it is
 -- passed. This project's own.
-use Rattle.std.specs.Prelude.{◌≡◌, ◌⊎◌, ◌≤◌, ℕ, suc, ℤ, nat_abs, List, [], ◌∷◌, ◌++◌, length, take, slice_get, Option, Some, None}
+use Rattle.std.specs.Prelude.{◌≡◌, ◌⊎◌, ◌≤◌, ℕ, suc, ℤ, nat_abs, List, [], ◌∷◌, ◌++◌, length, take, slice_get, Option}
+use Rattle.std.specs.Prelude.{Some, None}
 use Rattle.std.specs.Prelude.{⊤, Bool, true, false, ◌==◌, if◌then◌else◌, Result, Ok, Err}
 use Rattle.std.specs.List.{last_or}
 use Rattle.wb_ports.specs.PortState.{PortState}
