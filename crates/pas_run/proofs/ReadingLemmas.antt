@@ -58,7 +58,7 @@ taken_byte bound state (Some port) (Some now) byte file u a t h =
     let place = where_port_is state.ahead port file a read.ahead in
     let within = slice_get_within port.bytes port.place byte t.0 in
     let moved : IsFile bound (record state { last = Some byte; ahead = Byte byte })
-        (Some (record port { place = port.place + 1 })) file = record {
+    (Some (record port { place = port.place + 1 })) file = record {
       kind = h.kind;
       bytes = h.bytes;
       mode = h.mode;
@@ -74,7 +74,7 @@ taken_byte bound state (Some port) (Some now) byte file u a t h =
         ahead = (omega (arith, place), ap (slice_get port.bytes) place ∙ t.0);
       });
     } in subst (λ found. IsFile bound (record state { last = Some byte; ahead = Byte byte }) (Some found) file)
-        (sym t.1) moved
+    (sym t.1) moved
 
 at_end : (file : File) (port : PortState) (ends : Bool) → view file
     ≡ (if ends then port.bytes else port.bytes ++ line_end ∷ []) → file.place ≡ length port.bytes
@@ -102,13 +102,13 @@ behind file port true None t b l p =
     let v : view file ≡ port.bytes =
     ap (λ text. if text then files.with_line_end (last_or None file.bytes) file.bytes else file.bytes) t
     ∙ ap (λ bytes. files.with_line_end (last_or None bytes) bytes) b
-        ∙ ap (λ o. files.with_line_end o port.bytes) (sym l) in
+    ∙ ap (λ o. files.with_line_end o port.bytes) (sym l) in
     p ∙ ap length (sym v)
 behind file port true (Some last) t b l p =
     at_end file port (last == line_end)
     (ap (λ text. if text then files.with_line_end (last_or None file.bytes) file.bytes else file.bytes) t
     ∙ ap (λ bytes. files.with_line_end (last_or None bytes) bytes) b
-        ∙ ap (λ o. files.with_line_end o port.bytes) (sym l)) p
+    ∙ ap (λ o. files.with_line_end o port.bytes) (sym l)) p
 
 -- where the port has no byte, the file is at the end of its bytes
 pub taken_none : (bound : PortState) (state : FileState) (told told' : Option PortState) (file : File) → state.usage
@@ -121,10 +121,10 @@ taken_none bound state (Some port) (Some now) file u a t h =
     let place = where_port_is state.ahead port file a read.ahead in
     let past = past_end port.bytes port.place t.0 in
     let last : state.last ≡ last_or None port.bytes =
-        read.last ∙ ap (last_or None) (take_all port.place port.bytes past) in
+    read.last ∙ ap (last_or None) (take_all port.place port.bytes past) in
     let at_last : file.place ≡ length port.bytes = let w = read.within in omega (arith, place, past, w) in
     let moved : IsFile bound (record state { ahead = ahead_behind state.is_text state.last }) (Some port) file =
-        record {
+    record {
       kind = h.kind;
       bytes = h.bytes;
       mode = h.mode;
@@ -138,7 +138,7 @@ taken_none bound state (Some port) (Some now) file u a t h =
         ahead = behind file port state.is_text state.last h.kind h.bytes last at_last;
       });
     } in subst (λ found. IsFile bound (record state { ahead = ahead_behind state.is_text state.last }) (Some found)
-        file) (sym t.1) moved
+    file) (sym t.1) moved
 
 -- behind the byte that is looked at
 stepped : (ahead : Ahead) (byte : ℕ) (port : PortState) (file : File) → byte_seen ahead ≡ Some byte
@@ -172,9 +172,12 @@ pub got : (bound : PortState) (state : FileState) (told : Option PortState) (byt
     → byte_seen state.ahead ≡ Some byte → (files.next_byte file ≡ fine byte) × IsFile bound state told file
     → (made : File) × (files.get file ≡ fine made)
     × IsFile bound (record state { ahead = ahead_passed state.ahead }) told made
-got bound state told byte file s (e, h) =
-    (record file { place = suc file.place }, ap (λ found. then_answer found
-    (λ _. fine (record file { place = suc file.place }))) e, passed_on bound state told byte file s h)
+got bound state told byte file s (e, h) = (
+  record file { place = suc file.place },
+  ap (λ found. then_answer found
+      (λ _. fine (record file { place = suc file.place }))) e,
+  passed_on bound state told byte file s h,
+)
 
 kept_place : (ahead : Ahead) (port : PortState) (file : File) (byte : ℕ) → IsAhead ahead port file
     → IsAhead ahead port (record file { buffer = Some byte })

@@ -52,7 +52,7 @@ put_failed bound state (Some port) None byte file t h = absurd t
 put_failed bound state (Some port) (Some now) byte file t h =
     ⊎_elim (λ (e : now ≡ port). inl (ap (λ (p : PortState). p.bytes) e ∙ sym h.bytes))
     (λ (e : now ≡ longer_port byte port). inr (ap (λ (p : PortState). p.bytes) e
-        ∙ ap (λ b. b ++ byte ∷ []) (sym h.bytes))) t
+    ∙ ap (λ b. b ++ byte ∷ []) (sym h.bytes))) t
 
 -- one byte more of several
 pub one_more : (bound : PortState) (state : FileState) (told told' : Option PortState) (byte : ℕ)
@@ -61,8 +61,8 @@ pub one_more : (bound : PortState) (state : FileState) (told told' : Option Port
     → IsFile bound state told' (with_more now file)
 one_more bound state told told' byte before now file u e t h =
     subst (λ b. IsFile bound state told' (record file { bytes = b }))
-        (append_assoc file.bytes before (byte ∷ []) ∙ ap (λ b. file.bytes ++ b) (sym e))
-        (put_told bound state told told' byte (with_more before file) u t h)
+    (append_assoc file.bytes before (byte ∷ []) ∙ ap (λ b. file.bytes ++ b) (sym e))
+    (put_told bound state told told' byte (with_more before file) u t h)
 
 pub none_more : (bound : PortState) (state : FileState) (told : Option PortState) (file : File)
     → IsFile bound state told file → IsFile bound state told (with_more [] file)
@@ -77,9 +77,11 @@ pub part_of : (bound : PortState) (state : FileState) (told told' : Option PortS
 part_of bound state told told' byte i more before now file b n e t h =
     ⊎_elim
     (λ (s : Shows (file.bytes ++ before) told'). (i, subst (λ x. Shows (file.bytes ++ x) told') b s))
-    (λ (s : Shows ((file.bytes ++ before) ++ byte ∷ []) told').
-        (i + 1, subst (λ x. Shows x told') (append_assoc file.bytes before (byte ∷ [])
-        ∙ ap (λ x. file.bytes ++ x) (sym e ∙ n)) s))
+    (λ (s : Shows ((file.bytes ++ before) ++ byte ∷ []) told'). (
+      i + 1,
+      subst (λ x. Shows x told') (append_assoc file.bytes before (byte ∷ [])
+          ∙ ap (λ x. file.bytes ++ x) (sym e ∙ n)) s,
+    ))
     (put_failed bound state told told' byte (with_more before file) t h)
 
 -- pieces one behind another
@@ -93,19 +95,27 @@ pub part_of_first : (told : Option PortState) (bytes first second : List ℕ) �
     × Shows (bytes ++ take count first) told → (count : ℕ) × Shows (bytes ++ take count (first ++ second)) told
 part_of_first told bytes first second (count, s) =
     ⊎_elim
-    (λ (l : count < length first). (count, subst (λ x. Shows (bytes ++ x) told)
-        (sym (take-append-le count first second (omega (arith, l)))) s))
-    (λ (l : length first ≤ count). (length first, subst (λ x. Shows (bytes ++ x) told)
-        (take_all count first l ∙ sym (take-append_seam first second)) s))
+    (λ (l : count < length first). (
+      count,
+      subst (λ x. Shows (bytes ++ x) told)
+          (sym (take-append-le count first second (omega (arith, l)))) s,
+    ))
+    (λ (l : length first ≤ count). (
+      length first,
+      subst (λ x. Shows (bytes ++ x) told)
+          (take_all count first l ∙ sym (take-append_seam first second)) s,
+    ))
     (cases_lt count (length first))
 
 pub part_of_second : (told : Option PortState) (bytes first second : List ℕ) → (count : ℕ)
     × Shows ((bytes ++ first) ++ take count second) told → (count : ℕ)
     × Shows (bytes ++ take count (first ++ second)) told
-part_of_second told bytes first second (count, s) =
-    (length first + count, subst (λ x. Shows x told)
-        (append_assoc bytes first (take count second) ∙ ap (λ x. bytes ++ x)
-        (sym (take-append-add first second count))) s)
+part_of_second told bytes first second (count, s) = (
+  length first + count,
+  subst (λ x. Shows x told)
+      (append_assoc bytes first (take count second) ∙ ap (λ x. bytes ++ x)
+      (sym (take-append-add first second count))) s,
+)
 
 pub pieces_behind : {T : Type 0} (first second : List ℕ) (before mid now : FileState)
     (told at_mid tells : Option PortState) (result : Result (Unit {0}) T)
@@ -113,11 +123,15 @@ pub pieces_behind : {T : Type 0} (first second : List ℕ) (before mid now : Fil
     → IsFile bound mid at_mid (with_more first file)) → Pieces second mid at_mid now tells result
     → Pieces (first ++ second) before told now tells result
 pieces_behind first second before mid now told at_mid tells (Ok value) f p =
-    record { each = λ bound file h. with_pieces bound now tells first second file
-    (p.each bound (with_more first file) (f bound file h)) }
+    record {
+      each = λ bound file h. with_pieces bound now tells first second file
+          (p.each bound (with_more first file) (f bound file h));
+    }
 pieces_behind first second before mid now told at_mid tells (Err failure) f p =
-    record { each = λ bound file h. part_of_second tells file.bytes first second
-    (p.each bound (with_more first file) (f bound file h)) }
+    record {
+      each = λ bound file h. part_of_second tells file.bytes first second
+          (p.each bound (with_more first file) (f bound file h));
+    }
 
 -- the end of a line is written on a text
 pub line_answer : (bound : PortState) (state : FileState) (told : Option PortState) (file : File) → state.is_text
@@ -146,7 +160,7 @@ cut : (field : ℕ) (bytes : List ℕ) → take (min field (length bytes)) bytes
 cut field bytes =
     ⊎_elim
     (λ (l : field < length bytes). let e : min field (length bytes)
-        ≡ field = omega (arith, l) in ap (λ n. take n bytes) e)
+    ≡ field = omega (arith, l) in ap (λ n. take n bytes) e)
     (λ (l : length bytes ≤ field). let e : min field (length bytes) ≡ length bytes = omega (arith, l) in
     ap (λ n. take n bytes) e ∙ take_all (length bytes) bytes (omega arith) ∙ sym (take_all field bytes l))
     (cases_lt field (length bytes))

@@ -11,4 +11,4 @@ returns-in-Err-clause-pieces g c = record {
 pub returns-in-Ok-clause-pieces : goal.returns-in-Ok-clause-pieces
 returns-in-Ok-clause-pieces g c =
     pieces_behind (replicate c.args.spaces space) _ _ _ _ _ _ _ _
-        (λ bound file h. c.in-Ok.ensures.pieces.each bound file h) c.put_all.ensures.pieces
+    (λ bound file h. c.in-Ok.ensures.pieces.each bound file h) c.put_all.ensures.pieces

@@ -27,7 +27,7 @@ loop-more-preserved c = λ spellings.
     ∙ (ap (λ (o : List ℕ). left o c.loop-more.self) (ap option_to_list (c.label_of-in-loop-more.ensures spellings))
     ∙ (ap (λ (labels : Known).
     left (option_to_list (label_of (statement_in spellings (out-MoreStatement next).statement))) labels)
-        (c.loop-more.invariant spellings)
+    (c.loop-more.invariant spellings)
     ∙ (left_both (labels_so_far spellings first (take c.loop-more.more-index more))
     (option_to_list (label_of (statement_in spellings (out-MoreStatement next).statement))) c.args.self.now
     ∙ ap (λ (labels : List ℕ). left labels c.args.self.now)
