@@ -52,35 +52,38 @@ call_is_lawful =
           others = [];
           variables = refl;
           declared = all_from declared [] tt;
-          statements = ((here _ _ _ refl refl refl, (here _ _ _ refl refl refl, tt), inl refl), ((refl, refl, tt), tt));
+          statements = (
+            (here _ _ _ refl refl refl, (here _ _ _ refl refl refl, tt, refl, refl), inl (refl, refl)),
+            ((refl, refl, (tt, refl)), tt),
+          );
         },
         tt,
       );
       bodies_once = (tt, tt);
       routines = routines;
       statements = (
-        (here _ _ _ refl refl refl, tt, inl refl),
+        (here _ _ _ refl refl refl, tt, inl (refl, refl)),
         (
-          ((here _ _ _ refl refl refl, tt, refl), tt, inl refl),
+          ((here _ _ _ refl refl refl, tt, refl, refl), tt, inl (refl, refl)),
           (
-            ((here _ _ _ refl refl refl, tt, refl), tt, inl refl),
+            ((here _ _ _ refl refl refl, tt, refl, refl), tt, inl (refl, refl)),
             (
               (
-                (here _ _ _ refl refl refl, here _ _ _ refl refl refl, refl),
+                (here _ _ _ refl refl refl, here _ _ _ refl refl refl, refl, refl),
                 (_, refl, refl, (refl, refl, here _ _ _ refl refl refl, refl, tt)),
-                inl refl,
+                inl (refl, refl),
               ),
               (
                 (
                   (here _ _ _ refl refl refl, refl),
                   all_one (IsLawfulItem index_behind_right_side []) _
-                      (((here _ _ _ refl refl refl, tt, refl), tt), tt),
+                      (((((here _ _ _ refl refl refl, tt, refl, refl), tt, refl, refl), refl), refl), tt),
                 ),
                 (
                   (
                     (here _ _ _ refl refl refl, refl),
                     all_one (IsLawfulItem index_behind_right_side []) _
-                        (((here _ _ _ refl refl refl, tt, refl), tt), tt),
+                        (((((here _ _ _ refl refl refl, tt, refl, refl), tt, refl, refl), refl), refl), tt),
                   ),
                   tt,
                 ),
@@ -109,10 +112,16 @@ copying_is_lawful = record {
   routines = λ routine less. absurd (omega (arith, less));
   statements = (
     (
-      (here _ _ _ refl refl refl, refl),
+      (((here _ _ _ refl refl refl, refl), refl), refl),
       (
         ((here _ _ _ refl refl refl, refl), all_one (IsLawfulTarget copying []) _ (here _ _ _ refl refl refl, refl)),
-        (((here _ _ _ refl refl refl, refl), all_one (IsLawfulItem copying []) _ (here _ _ _ refl refl refl, tt)), tt),
+        (
+          (
+            (here _ _ _ refl refl refl, refl),
+            all_one (IsLawfulItem copying []) _ ((here _ _ _ refl refl refl, refl), tt),
+          ),
+          tt,
+        ),
       ),
     ),
     tt,

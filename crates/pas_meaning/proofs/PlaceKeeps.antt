@@ -55,7 +55,7 @@ module _ (program : TypedProgram) (lawful : IsLawful program) where
 
   pub may_take : (type source : PasType) (datum : Datum) → Takes program.types type source → Sound source datum
       → MayTake type datum
-  may_take type source datum (inl ordinal) sound = inl ordinal
+  may_take type source datum (inl ordinal) sound = inl ordinal.0
   may_take type source datum (inr same) sound = inr (subst (λ type. Sound type datum) (sym same) sound)
 
   fits_sound_by : (type : PasType) (datum : Datum) (range : Option Range) → range_of program.types type ≡ range

@@ -10,7 +10,7 @@ use Rattle.pas_typed.specs.Typed.{FileStep, Variable, Slot, Value, Place, Passed
 use Rattle.pas_typed.specs.Typed.{TypedProgram}
 use Rattle.pas_typed.specs.TypeOf.{type_of_place, type_of}
 use Rattle.pas_typed.specs.Lawful.{IsOrdinal, IsLawful, IsLawfulSlot, IsLawfulValue, IsLawfulPlace, IsLawfulTarget}
-use Rattle.pas_typed.specs.Lawful.{IsLawfulItem, IsLawfulStatement, AreLawful, AreLawfulArms}
+use Rattle.pas_typed.specs.Lawful.{IsLawfulNumber, IsLawfulItem, IsLawfulStatement, AreLawful, AreLawfulArms}
 use Rattle.pas_typed.specs.Shapes.{shape_of}
 use Rattle.pas_typed.proofs.ShapeLemmas.{shape_of-ordinal}
 use Rattle.pas_meaning.specs.declared.errors.TheConstants.{OUT_OF_RANGE, NO_CASE_MATCHES, STATUS_OUT_OF_RANGE}
@@ -49,6 +49,10 @@ module _ (program : TypedProgram) (lawful : IsLawful program) (limit : Option �
   abbrev at_value : (found : Value) → IsLawfulValue program variables found
       → Keeps kinds kinds (IsOfType program.types (type_of found)) (run.value limit program below found)
   at_value = keeps_value program lawful limit below keeps_below variables result kinds knows
+
+  abbrev at_number : (found : Value) → IsLawfulNumber program variables found
+      → Keeps kinds kinds (IsOfType program.types (type_of found)) (run.value limit program below found)
+  at_number found is = at_value found is.0
 
   kept_assigned : (place : Place) (datum : Datum) → IsLawfulPlace program variables place
       → MayTake program lawful (type_of_place place) datum → Kept kinds (run.assigned limit program below place datum)
@@ -90,10 +94,10 @@ module _ (program : TypedProgram) (lawful : IsLawful program) (limit : Option �
       keeps_then (kept_read_item type file place (are 0 place (omega arith)))
       (kept_read_items type file places (λ k d less. are (suc k) d (omega (arith, less))))
 
-  kept_width : (width : ℕ) (given : Option Value) → IfSome given (IsLawfulValue program variables)
+  kept_width : (width : ℕ) (given : Option Value) → IfSome given (IsLawfulNumber program variables)
       → Kept kinds (run.width_or limit program below width given)
   kept_width width None is = keeps_pure (pos width) tt
-  kept_width width (Some given) is = keeps_operand_alone number_of (at_value given is)
+  kept_width width (Some given) is = keeps_operand_alone number_of (at_number given is)
 
   kept_field : (file : Slot) (bytes_for : ℕ → List ℕ) (width : ℤ)
       → Kept kinds (run.write_field limit program below file bytes_for width)
@@ -102,10 +106,10 @@ module _ (program : TypedProgram) (lawful : IsLawful program) (limit : Option �
   kept_item : (file : Slot) (item : Item) → IsLawfulItem program variables item
       → Kept kinds (run.write_item limit program below file item)
   kept_item file (typed.number_item item given) is =
-      keeps_operand number_of (at_value item is.0) (λ found. keeps_bind (kept_width 1 given is.1)
+      keeps_operand number_of (at_number item is.0) (λ found. keeps_bind (kept_width 1 given is.1)
       (λ width is_width. kept_field file (λ field. files.number_in_field field found) width))
   kept_item file (typed.char_item item given) is =
-      keeps_operand (byte_of OUT_OF_RANGE) (at_value item is.0) (λ found. keeps_bind (kept_width 1 given is.1)
+      keeps_operand (byte_of OUT_OF_RANGE) (at_number item is.0) (λ found. keeps_bind (kept_width 1 given is.1)
       (λ width is_width. kept_field file (λ field. files.char_in_field field found) width))
   kept_item file (typed.string_item bytes given) is =
       keeps_bind (kept_width (length bytes) given is)
@@ -118,13 +122,13 @@ module _ (program : TypedProgram) (lawful : IsLawful program) (limit : Option �
       keeps_then (kept_item file item (are 0 item (omega arith)))
       (kept_items file items (λ k d less. are (suc k) d (omega (arith, less))))
 
-  kept_byte : (type : PasType) (file : Slot) (item : Value) → IsLawfulValue program variables item
+  kept_byte : (type : PasType) (file : Slot) (item : Value) → IsLawfulNumber program variables item
       → Kept kinds (run.write_byte limit program below type file item)
   kept_byte type file item is =
-      keeps_bind (at_value item is) (λ datum sound. keeps_then (kept_set_buffer type file datum)
+      keeps_bind (at_number item is) (λ datum sound. keeps_then (kept_set_buffer type file datum)
       (kept_step_on typed.put file))
 
-  kept_bytes : (type : PasType) (file : Slot) (items : List Value) → All (IsLawfulValue program variables) items
+  kept_bytes : (type : PasType) (file : Slot) (items : List Value) → All (IsLawfulNumber program variables) items
       → Kept kinds (run.write_bytes limit program below type file items)
   kept_bytes type file [] are = keeps_pure tt tt
   kept_bytes type file (item ∷ items) are =
@@ -153,17 +157,18 @@ module _ (program : TypedProgram) (lawful : IsLawful program) (limit : Option �
   kept_looped list entry turning loop run.leaves is = keeps_pure run.next tt
   kept_looped list entry turning loop (run.jump label) is = kept_entered list entry loop label is
 
-  kept_while_turn : (test : Value) {list : Doing Store Flow} → IsLawfulValue program variables test → Kept kinds list
+  kept_while_turn : (test : Value) {list : Doing Store Flow} → IsLawfulNumber program variables test → Kept kinds list
       → Kept kinds (run.while_turn limit program below test list)
   kept_while_turn test is list =
-      keeps_operand truth_of (at_value test is) (λ found. keeps_if found list (keeps_pure run.leaves tt))
+      keeps_operand truth_of (at_number test is) (λ found. keeps_if found list (keeps_pure run.leaves tt))
 
-  kept_until : (test : Value) → IsLawfulValue program variables test → Kept kinds (run.until limit program below test)
+  kept_until : (test : Value) → IsLawfulNumber program variables test
+      → Kept kinds (run.until limit program below test)
   kept_until test is =
-      keeps_operand truth_of (at_value test is)
+      keeps_operand truth_of (at_number test is)
       (λ found. keeps_if found (keeps_pure run.leaves tt) (keeps_pure run.next tt))
 
-  kept_repeat_turn : (test : Value) {list : Doing Store Flow} → IsLawfulValue program variables test → Kept kinds list
+  kept_repeat_turn : (test : Value) {list : Doing Store Flow} → IsLawfulNumber program variables test → Kept kinds list
       → Kept kinds (run.repeat_turn limit program below test list)
   kept_repeat_turn test is list = keeps_bind list (λ flow is_flow. keeps_on flow (kept_until test is))
 
@@ -205,12 +210,12 @@ module _ (program : TypedProgram) (lawful : IsLawful program) (limit : Option �
         keeps_then (kept_stored low sound) (keeps_bind kept (λ flow is_flow. keeps_on flow kept_forget)))))
 
     -- a `for` from its begin, by what its list does
-    kept_for_start : (first last : Value) (list : Statements) → IsLawfulValue program variables first
-        → IsLawfulValue program variables last → AreLawful program variables result list
+    kept_for_start : (first last : Value) (list : Statements) → IsLawfulNumber program variables first
+        → IsLawfulNumber program variables last → AreLawful program variables result list
         → Kept kinds (run.items limit program below None list)
         → Kept kinds (run.statement limit program below run.start (typed.for slot way first last list))
     kept_for_start first last list first_is last_is are kept =
-        keeps_operand number_of (at_value first first_is) (λ low. keeps_operand number_of (at_value last last_is)
+        keeps_operand number_of (at_number first first_is) (λ low. keeps_operand number_of (at_number last last_is)
         (λ high. kept_for low high _ (keeps_then keeps_step (keeps_bind (kept_for_turn high kept) (λ flow is_flow.
         kept_looped list (run.turn_at high) (run.turn high) (typed.for slot way first last list) flow
         (declared, ordinal, first_is, last_is, are))))))
@@ -231,7 +236,7 @@ module _ (program : TypedProgram) (lawful : IsLawful program) (limit : Option �
         keeps_bind (at_value right is.1) (λ datum sound. keeps_then (kept_assigned place datum is.0
         (may_take program lawful (type_of_place place) (type_of right) datum is.2 sound)) (keeps_pure run.next tt))
     kept_statement from (typed.sets_result cell type right) is =
-        keeps_bind (keeps_checked (fits program.types type) (at_value right is.2)
+        keeps_bind (keeps_checked (fits program.types type) (at_number right is.2)
         (λ datum sound. fits_sound program lawful type datum (inl (knows.ordinal type is.1)))) (λ datum sound.
         keeps_then (kept_result cell type datum is.0 is.1 sound) (keeps_pure run.next tt))
     kept_statement from (typed.calls routine passed) is =
@@ -243,16 +248,16 @@ module _ (program : TypedProgram) (lawful : IsLawful program) (limit : Option �
         keeps_bind (kept_list (run.label_in from) list is)
         (λ flow is_flow. kept_behind_list list (typed.compound list) flow is)
     kept_statement from (typed.if_then test s) is =
-        keeps_operand truth_of (at_value test is.0)
+        keeps_operand truth_of (at_number test is.0)
         (λ found. keeps_if found (kept_statement run.start s is.1) (keeps_pure run.next tt))
     kept_statement from (typed.if_else test s t) is =
-        keeps_operand truth_of (at_value test is.0)
+        keeps_operand truth_of (at_number test is.0)
         (λ found. keeps_if found (kept_statement run.start s is.1) (kept_statement run.start t is.2))
     kept_statement from (typed.case selector arms) is =
-        keeps_operand number_of (at_value selector is.0)
+        keeps_operand number_of (at_number selector is.0)
         (λ found. kept_arm found arms is.1 (keeps_any (wrong NO_CASE_MATCHES)))
     kept_statement from (typed.case_others selector arms s) is =
-        keeps_operand number_of (at_value selector is.0)
+        keeps_operand number_of (at_number selector is.0)
         (λ found. kept_arm found arms is.1 (kept_statement run.start s is.2))
     kept_statement run.again (typed.while test list) is =
         keeps_bind (kept_while_turn test is.0 (kept_list None list is.1))
@@ -315,7 +320,7 @@ module _ (program : TypedProgram) (lawful : IsLawful program) (limit : Option �
         kept_file place (λ file. keeps_then (kept_bytes (run.components_of program.types place) file written is.1)
         (keeps_pure run.next tt))
     kept_statement from (typed.halts status) is =
-        keeps_operand (byte_of STATUS_OUT_OF_RANGE) (at_value status is) (λ found. keeps_stop (halted found))
+        keeps_operand (byte_of STATUS_OUT_OF_RANGE) (at_number status is) (λ found. keeps_stop (halted found))
 
     pub kept_list : (from : Option ℕ) (list : Statements) → AreLawful program variables result list
         → Kept kinds (run.items limit program below from list)

@@ -55,22 +55,22 @@ module _ (program : TypedProgram) (lawful : IsLawful program) (limit : Option �
         keeps_answered (run.defined_result found) (defined_sound type found
         (result_ordinal program lawful routine is.0 type is.1 is.2))))
     keeps_value (typed.applied typed.ord argument) is =
-        keeps_operand number_of (keeps_value argument is) (λ found. keeps_number (function_at typed.ord found))
+        keeps_operand number_of (keeps_value argument is.0) (λ found. keeps_number (function_at typed.ord found))
     keeps_value (typed.applied typed.chr argument) is =
-        keeps_operand number_of (keeps_value argument is) (λ found. keeps_number (function_at typed.chr found))
+        keeps_operand number_of (keeps_value argument is.0) (λ found. keeps_number (function_at typed.chr found))
     keeps_value (typed.applied typed.abs argument) is =
-        keeps_operand number_of (keeps_value argument is) (λ found. keeps_number (function_at typed.abs found))
+        keeps_operand number_of (keeps_value argument is.0) (λ found. keeps_number (function_at typed.abs found))
     keeps_value (typed.applied typed.odd argument) is =
-        keeps_operand number_of (keeps_value argument is) (λ found. keeps_number (function_at typed.odd found))
+        keeps_operand number_of (keeps_value argument is.0) (λ found. keeps_number (function_at typed.odd found))
     keeps_value (typed.tested test place) is =
         keeps_bind (keeps_any (run.file_variable place)) (λ file is_file.
         keeps_bind (keeps_asked (run.of_file file (run.test_of test)))
         (λ found is_found. keeps_pure (run.boolean found) tt))
     keeps_value (typed.parenthesized inner) is = keeps_value inner is
     keeps_value (typed.signed sign argument) is =
-        keeps_operand number_of (keeps_value argument is) (λ found. keeps_number (signed sign found))
+        keeps_operand number_of (keeps_value argument is.0) (λ found. keeps_number (signed sign found))
     keeps_value (typed.negated argument) is =
-        keeps_operand truth_of (keeps_value argument is) (λ found. keeps_pure (run.boolean (not found)) tt)
+        keeps_operand truth_of (keeps_value argument is.0) (λ found. keeps_pure (run.boolean (not found)) tt)
     keeps_value (typed.product left multiplying.And right) is =
         keeps_operand truth_of (keeps_value left is.0) (λ first. keeps_if first
         (keeps_checked (fits program.types (whole boolean)) (keeps_value right is.1) (boolean_sound (type_of right)))

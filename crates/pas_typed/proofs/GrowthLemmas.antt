@@ -11,8 +11,10 @@ use Rattle.pas_typed.specs.Typed as typed
 use Rattle.pas_typed.specs.Typed.{Home, Variable, Slot, Value, Place, Passed, Item, Statement, Statements, Arms}
 use Rattle.pas_typed.specs.Typed.{Heading}
 use Rattle.pas_typed.specs.Typed.{TypedProgram}
-use Rattle.pas_typed.specs.Lawful.{IsOrdinal, IsFile, field_type, Takes, IsDeclared, variables_of}
-use Rattle.pas_typed.specs.Lawful.{IsLawfulValue, IsLawfulPlace, ArePassed, IsLawfulFile, IsLawfulTarget, IsLawfulItem}
+use Rattle.pas_typed.specs.TypeOf.{type_of}
+use Rattle.pas_typed.specs.Lawful.{IsOrdinal, IsFile, field_type, Takes, IsDeclared, variables_of, IsNumber}
+use Rattle.pas_typed.specs.Lawful.{IsLawfulValue, IsLawfulPlace, ArePassed, IsLawfulNumber, IsLawfulFile}
+use Rattle.pas_typed.specs.Lawful.{IsLawfulTarget, IsLawfulItem}
 use Rattle.pas_typed.specs.Lawful.{IsLawfulStatement, AreLawful, AreLawfulArms}
 
 -- what is there by its number stays there
@@ -84,7 +86,7 @@ module _ (table later : Table) (stays : Stays table later) where
       (λ found there at. ap (option_and_then in_fields) (part_stays fields_in type found there) ∙ at)
 
   takes_stays : (target type : PasType) → Takes table target type → Takes later target type
-  takes_stays target type (inl ordinal) = inl (ordinal_stays target ordinal)
+  takes_stays target type (inl ordinal) = inl (ordinal_stays target ordinal.0, ordinal_stays type ordinal.1)
   takes_stays target type (inr same) = inr same
 
 module _ (program later : TypedProgram) (grows : Grows program later) (variables : List Variable) where
@@ -98,21 +100,27 @@ module _ (program later : TypedProgram) (grows : Grows program later) (variables
   }
   declared_stays typed.local slot is = is
 
+  stays_number : (found : Value) → IsNumber program variables found → IsNumber later variables found
+  stays_number found is = ordinal_stays program.types later.types grows.types (type_of found) is
+
   mutual
     pub value_stays : (found : Value) → IsLawfulValue program variables found → IsLawfulValue later variables found
     value_stays (typed.constant base number) is = tt
     value_stays (typed.read place) is = place_stays place is
     value_stays (typed.call routine type passed) is =
         (is.0, grows.headings.each routine is.0 is.1, is.2, passed_stays passed is.0.parameters is.3)
-    value_stays (typed.applied function argument) is = value_stays argument is
+    value_stays (typed.applied function argument) is = (value_stays argument is.0, stays_number argument is.1)
     value_stays (typed.tested test place) is =
         (place_stays place is.0, file_stays program.types later.types grows.types _ is.1)
     value_stays (typed.parenthesized inner) is = value_stays inner is
-    value_stays (typed.signed sign argument) is = value_stays argument is
-    value_stays (typed.negated argument) is = value_stays argument is
-    value_stays (typed.product left op right) is = (value_stays left is.0, value_stays right is.1)
-    value_stays (typed.addition left op right) is = (value_stays left is.0, value_stays right is.1)
-    value_stays (typed.comparison left relation right) is = (value_stays left is.0, value_stays right is.1)
+    value_stays (typed.signed sign argument) is = (value_stays argument is.0, stays_number argument is.1)
+    value_stays (typed.negated argument) is = (value_stays argument is.0, stays_number argument is.1)
+    value_stays (typed.product left op right) is =
+        (value_stays left is.0, value_stays right is.1, stays_number left is.2, stays_number right is.3)
+    value_stays (typed.addition left op right) is =
+        (value_stays left is.0, value_stays right is.1, stays_number left is.2, stays_number right is.3)
+    value_stays (typed.comparison left relation right) is =
+        (value_stays left is.0, value_stays right is.1, stays_number left is.2, stays_number right is.3)
 
     pub place_stays : (place : Place) → IsLawfulPlace program variables place → IsLawfulPlace later variables place
     place_stays (typed.slot slot) is = declared_stays slot.home slot is
@@ -120,6 +128,7 @@ module _ (program later : TypedProgram) (grows : Grows program later) (variables
       place_stays place is.0,
       value_stays index is.1,
       part_stays program.types later.types grows.types elements_in _ _ is.2,
+      stays_number index is.3,
     )
     place_stays (typed.field place number type) is =
         (place_stays place is.0, field_stays program.types later.types grows.types _ number type is.1)
@@ -148,14 +157,17 @@ module _ (program later : TypedProgram) (grows : Grows program later) (variables
   pub target_stays : (place : Place) → IsLawfulTarget program variables place → IsLawfulTarget later variables place
   target_stays place is = (place_stays place is.0, ordinal_stays program.types later.types grows.types _ is.1)
 
-  width_stays : (width : Option Value) → IfSome width (IsLawfulValue program variables)
-      → IfSome width (IsLawfulValue later variables)
+  pub number_stays : (found : Value) → IsLawfulNumber program variables found → IsLawfulNumber later variables found
+  number_stays found is = (value_stays found is.0, stays_number found is.1)
+
+  width_stays : (width : Option Value) → IfSome width (IsLawfulNumber program variables)
+      → IfSome width (IsLawfulNumber later variables)
   width_stays None is = tt
-  width_stays (Some value) is = value_stays value is
+  width_stays (Some found) is = number_stays found is
 
   pub item_stays : (item : Item) → IsLawfulItem program variables item → IsLawfulItem later variables item
-  item_stays (typed.number_item item width) is = (value_stays item is.0, width_stays width is.1)
-  item_stays (typed.char_item item width) is = (value_stays item is.0, width_stays width is.1)
+  item_stays (typed.number_item item width) is = (number_stays item is.0, width_stays width is.1)
+  item_stays (typed.char_item item width) is = (number_stays item is.0, width_stays width is.1)
   item_stays (typed.string_item bytes width) is = width_stays width is
 
   module _ (result : Option PasType) where
@@ -168,23 +180,23 @@ module _ (program later : TypedProgram) (grows : Grows program later) (variables
         value_stays right is.1,
         takes_stays program.types later.types grows.types _ _ is.2,
       )
-      statement_stays (typed.sets_result cell type right) is = (is.0, is.1, value_stays right is.2)
+      statement_stays (typed.sets_result cell type right) is = (is.0, is.1, number_stays right is.2)
       statement_stays (typed.calls routine passed) is =
           (is.0, grows.headings.each routine is.0 is.1, passed_stays passed is.0.parameters is.2)
       statement_stays (typed.compound list) is = list_stays list is
-      statement_stays (typed.if_then test s) is = (value_stays test is.0, statement_stays s is.1)
+      statement_stays (typed.if_then test s) is = (number_stays test is.0, statement_stays s is.1)
       statement_stays (typed.if_else test s t) is =
-          (value_stays test is.0, statement_stays s is.1, statement_stays t is.2)
-      statement_stays (typed.case selector arms) is = (value_stays selector is.0, arms_stay arms is.1)
+          (number_stays test is.0, statement_stays s is.1, statement_stays t is.2)
+      statement_stays (typed.case selector arms) is = (number_stays selector is.0, arms_stay arms is.1)
       statement_stays (typed.case_others selector arms s) is =
-          (value_stays selector is.0, arms_stay arms is.1, statement_stays s is.2)
-      statement_stays (typed.while test list) is = (value_stays test is.0, list_stays list is.1)
-      statement_stays (typed.repeat list test) is = (list_stays list is.0, value_stays test is.1)
+          (number_stays selector is.0, arms_stay arms is.1, statement_stays s is.2)
+      statement_stays (typed.while test list) is = (number_stays test is.0, list_stays list is.1)
+      statement_stays (typed.repeat list test) is = (list_stays list is.0, number_stays test is.1)
       statement_stays (typed.for slot way first last list) is = (
         declared_stays slot.home slot is.0,
         ordinal_stays program.types later.types grows.types slot.type is.1,
-        value_stays first is.2,
-        value_stays last is.3,
+        number_stays first is.2,
+        number_stays last is.3,
         list_stays list is.4,
       )
       statement_stays (typed.goto label) is = tt
@@ -199,8 +211,8 @@ module _ (program later : TypedProgram) (grows : Grows program later) (variables
       statement_stays (typed.writes_line place written) is =
           (lawful_file_stays place is.0, λ k d less. item_stays (slice_index_or written k d) (is.1 k d less))
       statement_stays (typed.writes_bytes place written) is =
-          (lawful_file_stays place is.0, λ k d less. value_stays (slice_index_or written k d) (is.1 k d less))
-      statement_stays (typed.halts status) is = value_stays status is
+          (lawful_file_stays place is.0, λ k d less. number_stays (slice_index_or written k d) (is.1 k d less))
+      statement_stays (typed.halts status) is = number_stays status is
 
       pub list_stays : (list : Statements) → AreLawful program variables result list
           → AreLawful later variables result list

@@ -23,9 +23,9 @@ abbrev pub field_type : Table → PasType → ℕ → Option PasType
 field_type table type number =
     option_and_then (λ found. option_map (λ field. field.type) (slice_get found number)) (fields_of table type)
 
--- what a target of a type takes: any number, or else what is of the very type
+-- what a target of a type takes: a number takes any number, another target what is of the very type
 abbrev pub Takes : Table → PasType → PasType → Type 0
-Takes table target type = IsOrdinal table target ⊎ (target ≡ type)
+Takes table target type = (IsOrdinal table target × IsOrdinal table type) ⊎ (target ≡ type)
 
 -- a slot is what the variable with its number is declared as
 pub record IsDeclared (variables : List Variable) (slot : Slot) : Type 0 where
@@ -43,6 +43,10 @@ module _ (program : TypedProgram) (variables : List Variable) where
   abbrev pub IsLawfulSlot : Slot → Type 0
   IsLawfulSlot slot = IsDeclared (variables_of slot.home) slot
 
+  -- a value of an ordinal type, as each operand is
+  abbrev pub IsNumber : Value → Type 0
+  IsNumber found = IsOrdinal program.types (type_of found)
+
   abbrev mutual
     pub IsLawfulValue : Value → Type 0
     IsLawfulValue (typed.constant base number) = ⊤
@@ -50,20 +54,24 @@ module _ (program : TypedProgram) (variables : List Variable) where
     IsLawfulValue (typed.call routine type passed) =
         (heading : Heading) × (slice_get program.headings routine ≡ Some heading) × (heading.result ≡ Some type)
         × ArePassed passed heading.parameters
-    IsLawfulValue (typed.applied function argument) = IsLawfulValue argument
+    IsLawfulValue (typed.applied function argument) = IsLawfulValue argument × IsNumber argument
     IsLawfulValue (typed.tested test place) = IsLawfulPlace place × IsFile program.types (type_of_place place)
     IsLawfulValue (typed.parenthesized inner) = IsLawfulValue inner
-    IsLawfulValue (typed.signed sign argument) = IsLawfulValue argument
-    IsLawfulValue (typed.negated argument) = IsLawfulValue argument
-    IsLawfulValue (typed.product left op right) = IsLawfulValue left × IsLawfulValue right
-    IsLawfulValue (typed.addition left op right) = IsLawfulValue left × IsLawfulValue right
-    IsLawfulValue (typed.comparison left relation right) = IsLawfulValue left × IsLawfulValue right
+    IsLawfulValue (typed.signed sign argument) = IsLawfulValue argument × IsNumber argument
+    IsLawfulValue (typed.negated argument) = IsLawfulValue argument × IsNumber argument
+    IsLawfulValue (typed.product left op right) =
+        IsLawfulValue left × IsLawfulValue right × IsNumber left × IsNumber right
+    IsLawfulValue (typed.addition left op right) =
+        IsLawfulValue left × IsLawfulValue right × IsNumber left × IsNumber right
+    IsLawfulValue (typed.comparison left relation right) =
+        IsLawfulValue left × IsLawfulValue right × IsNumber left × IsNumber right
 
     pub IsLawfulPlace : Place → Type 0
     IsLawfulPlace (typed.slot slot) = IsLawfulSlot slot
     IsLawfulPlace (typed.element place range type index) =
         IsLawfulPlace place × IsLawfulValue index
         × (elements_of program.types (type_of_place place) ≡ Some (record { indexes = range; element = type }))
+        × IsNumber index
     IsLawfulPlace (typed.field place number type) =
         IsLawfulPlace place × (field_type program.types (type_of_place place) number ≡ Some type)
     IsLawfulPlace (typed.buffer place type) =
@@ -80,7 +88,10 @@ module _ (program : TypedProgram) (variables : List Variable) where
         × IsFalse (is_buffer place) × ArePassed others parameters
     ArePassed passed parameters = ⊥
 
-  -- a place that is a file, one that takes numbers, and what is written
+  -- a number, a place that is a file, one that takes numbers, and what is written
+  abbrev pub IsLawfulNumber : Value → Type 0
+  IsLawfulNumber found = IsLawfulValue found × IsNumber found
+
   abbrev pub IsLawfulFile : Place → Type 0
   IsLawfulFile place = IsLawfulPlace place × IsFile program.types (type_of_place place)
 
@@ -88,9 +99,9 @@ module _ (program : TypedProgram) (variables : List Variable) where
   IsLawfulTarget place = IsLawfulPlace place × IsOrdinal program.types (type_of_place place)
 
   abbrev pub IsLawfulItem : Item → Type 0
-  IsLawfulItem (typed.number_item item width) = IsLawfulValue item × IfSome width IsLawfulValue
-  IsLawfulItem (typed.char_item item width) = IsLawfulValue item × IfSome width IsLawfulValue
-  IsLawfulItem (typed.string_item bytes width) = IfSome width IsLawfulValue
+  IsLawfulItem (typed.number_item item width) = IsLawfulNumber item × IfSome width IsLawfulNumber
+  IsLawfulItem (typed.char_item item width) = IsLawfulNumber item × IfSome width IsLawfulNumber
+  IsLawfulItem (typed.string_item bytes width) = IfSome width IsLawfulNumber
 
   -- statements, where a function of this type runs, if one does
   module _ (result : Option PasType) where
@@ -100,20 +111,20 @@ module _ (program : TypedProgram) (variables : List Variable) where
       IsLawfulStatement (typed.assigns place right) =
           IsLawfulPlace place × IsLawfulValue right × Takes program.types (type_of_place place) (type_of right)
       IsLawfulStatement (typed.sets_result cell type right) =
-          (cell ≡ length variables) × (result ≡ Some type) × IsLawfulValue right
+          (cell ≡ length variables) × (result ≡ Some type) × IsLawfulNumber right
       IsLawfulStatement (typed.calls routine passed) =
           (heading : Heading) × (slice_get program.headings routine ≡ Some heading)
           × ArePassed passed heading.parameters
       IsLawfulStatement (typed.compound list) = AreLawful list
-      IsLawfulStatement (typed.if_then test s) = IsLawfulValue test × IsLawfulStatement s
-      IsLawfulStatement (typed.if_else test s t) = IsLawfulValue test × IsLawfulStatement s × IsLawfulStatement t
-      IsLawfulStatement (typed.case selector arms) = IsLawfulValue selector × AreLawfulArms arms
+      IsLawfulStatement (typed.if_then test s) = IsLawfulNumber test × IsLawfulStatement s
+      IsLawfulStatement (typed.if_else test s t) = IsLawfulNumber test × IsLawfulStatement s × IsLawfulStatement t
+      IsLawfulStatement (typed.case selector arms) = IsLawfulNumber selector × AreLawfulArms arms
       IsLawfulStatement (typed.case_others selector arms s) =
-          IsLawfulValue selector × AreLawfulArms arms × IsLawfulStatement s
-      IsLawfulStatement (typed.while test list) = IsLawfulValue test × AreLawful list
-      IsLawfulStatement (typed.repeat list test) = AreLawful list × IsLawfulValue test
+          IsLawfulNumber selector × AreLawfulArms arms × IsLawfulStatement s
+      IsLawfulStatement (typed.while test list) = IsLawfulNumber test × AreLawful list
+      IsLawfulStatement (typed.repeat list test) = AreLawful list × IsLawfulNumber test
       IsLawfulStatement (typed.for slot way first last list) =
-          IsLawfulSlot slot × IsOrdinal program.types slot.type × IsLawfulValue first × IsLawfulValue last
+          IsLawfulSlot slot × IsOrdinal program.types slot.type × IsLawfulNumber first × IsLawfulNumber last
           × AreLawful list
       IsLawfulStatement (typed.goto label) = ⊤
       IsLawfulStatement (typed.goto_last status) = ⊤
@@ -122,8 +133,8 @@ module _ (program : TypedProgram) (variables : List Variable) where
       IsLawfulStatement (typed.reads_line place places) = IsLawfulFile place × All IsLawfulTarget places
       IsLawfulStatement (typed.writes place written) = IsLawfulFile place × All IsLawfulItem written
       IsLawfulStatement (typed.writes_line place written) = IsLawfulFile place × All IsLawfulItem written
-      IsLawfulStatement (typed.writes_bytes place written) = IsLawfulFile place × All IsLawfulValue written
-      IsLawfulStatement (typed.halts status) = IsLawfulValue status
+      IsLawfulStatement (typed.writes_bytes place written) = IsLawfulFile place × All IsLawfulNumber written
+      IsLawfulStatement (typed.halts status) = IsLawfulNumber status
 
       pub AreLawful : Statements → Type 0
       AreLawful typed.no_statements = ⊤
