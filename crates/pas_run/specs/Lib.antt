@@ -1,1 +1,2 @@
 pub mod RunFiles
+pub mod inner

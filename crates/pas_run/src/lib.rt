@@ -1,6 +1,7 @@
 //! Runs Pascal programs.
 #![tactic(auto)]
 
+mod cells;
 mod files;
 mod lines;
 mod refusals;

@@ -1,0 +1,2 @@
+-- What private contracts say. No contract of a public call cites this.
+pub mod FlatStore
