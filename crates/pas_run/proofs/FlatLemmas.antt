@@ -3,17 +3,17 @@ use Rattle.std.proofs.Common.{◌≡◌, ℕ, zero, suc, ◌+◌, ◌<◌, ◌�
 use Rattle.std.proofs.Common.{ℤ, Option, Some, None, slice_get, slice_set, slice_index_or, arith, refl, sym, ap, ap₂}
 use Rattle.std.proofs.Common.{◌∙◌, subst, append_assoc, append-nil, length-append, get_or-set_same}
 use Rattle.std.proofs.lemmas.List.{take_at, drop_at, get_or_at, set_at, map-append, length-map, map-set, get_or-map}
-use Rattle.std.proofs.lemmas.List.{take-map, get_or_append_left, get_or-take}
+use Rattle.std.proofs.lemmas.List.{take-map, get_or_append_left}
 use Rattle.std.proofs.lemmas.Option.{slice_get_within, same_Some}
 use Rattle.std.specs.Prelude.{⊤}
 use Rattle.pas_typed.specs.Shapes.{Shape, one_cell, size, Leads, offset}
 use Rattle.pas_meaning.specs.Store as pascal
 use Rattle.pas_meaning.specs.Store.{Datum, undefined, own, refers, Reference, Store, cell_at, held_by, number_in}
-use Rattle.pas_meaning.specs.Store.{part_at, with_part_at, fetched, stored, opened, closed, top_of}
+use Rattle.pas_meaning.specs.Store.{part_at, with_part_at, fetched, stored, opened, closed, top_of, followed}
 use Rattle.pas_meaning.specs.Cells.{IsShaped, flat}
 use Rattle.pas_meaning.specs.Standing.{Kind, plain, named, Kinds, kind_at, Aims, Matches, Stands}
 use Rattle.pas_meaning.proofs.CellLemmas.{length-flat, StandsAt, stands_at}
-use Rattle.pas_meaning.proofs.StandingLemmas.{AllMatch, kind_row, kind_stays, fetched_shaped}
+use Rattle.pas_meaning.proofs.StandingLemmas.{AllMatch, kind_row, kind_stays, fetched_shaped, stands_closed}
 use Rattle.pas_run.specs.declared.cells.Address.{Address}
 use Rattle.pas_run.specs.declared.cells.Cell.{Cell}
 use Rattle.pas_run.specs.declared.cells.Cell.TheVariants.{Undefined, Refers}
@@ -176,6 +176,22 @@ module _ (kinds : Kinds) (store : Store) (reference : Reference) (shape : Shape)
   row_flat : slice_index_or (flat_store kinds store) reference.activation [] ≡ flat_row kinds row
   row_flat = get_or-map (flat_row kinds) store reference.activation [] [] row_there
 
+  -- its cells are there
+  pub address_there : address.activation < length (flat_store kinds store)
+  address_there = omega (arith, length-map store (flat_row kinds), row_there)
+
+  pub address_within : address.offset + size shape ≤ length (slice_index_or (flat_store kinds store) address.activation [])
+  address_within =
+      omega (
+        arith,
+        ap length (row_flat ∙ row_now),
+        length-append cells_now (datum_cells (fetched reference store) ++ cells_behind),
+        length-append (datum_cells (fetched reference store)) cells_behind,
+        begins,
+        length-datum_cells shape (fetched reference store)
+            (fetched_shaped kinds store reference shape stands aims),
+      )
+
   -- what is there is a slice of its activation
   pub flat-fetched : cells_at address (size shape) (flat_store kinds store) ≡ datum_cells (fetched reference store)
   flat-fetched =
@@ -201,3 +217,143 @@ module _ (kinds : Kinds) (store : Store) (reference : Reference) (shape : Shape)
       (ap (drop (address.offset + length (datum_cells new))) (sym (append_assoc cells_now old cells_behind))
       ∙ drop_at (cells_now ++ old) cells_behind (address.offset + length (datum_cells new))
       (omega (arith, length-append cells_now old, begins, as_long)))))
+
+-- a place of one cell
+number_cells : (datum : Datum) → IsShaped one_cell datum → datum_cells datum ≡ number_cell (number_in datum) ∷ []
+number_cells pascal.undefined is = refl
+number_cells (pascal.holds value) is = refl
+number_cells (pascal.parts found) is = absurd is
+
+module _ (kinds : Kinds) (store : Store) (reference : Reference) (stands : Stands kinds store)
+    (aims : Aims kinds reference one_cell) where
+  one_now : flat_row kinds (slice_index_or store reference.activation [])
+      ≡ cells_now kinds store reference one_cell stands aims
+      ++ (number_cell (number_in (fetched reference store))
+      ∷ cells_behind kinds store reference one_cell stands aims)
+  one_now =
+      row_now kinds store reference one_cell stands aims
+      ∙ ap (λ cells. cells_now kinds store reference one_cell stands aims
+      ++ (cells ++ cells_behind kinds store reference one_cell stands aims))
+      (number_cells (fetched reference store) (fetched_shaped kinds store reference one_cell stands aims))
+
+  pub cell-fetched : cell_in (address_of kinds reference) (flat_store kinds store)
+      ≡ number_cell (number_in (fetched reference store))
+  cell-fetched =
+      ap (λ cells. slice_index_or cells (address_of kinds reference).offset Undefined)
+      (row_flat kinds store reference one_cell stands aims ∙ one_now)
+      ∙ get_or_at (cells_now kinds store reference one_cell stands aims) _ _ Undefined
+      (address_of kinds reference).offset (begins kinds store reference one_cell stands aims)
+
+  pub cell-stored : (new : Datum) → IsShaped one_cell new → flat_store kinds (stored reference new store)
+      ≡ with_cell (address_of kinds reference) (number_cell (number_in new)) (flat_store kinds store)
+  cell-stored new is =
+      let front = cells_now kinds store reference one_cell stands aims in
+      let rest = cells_behind kinds store reference one_cell stands aims in
+      let at = (address_of kinds reference).offset in
+      map-set (flat_row kinds) store reference.activation _
+      ∙ ap (slice_set (flat_store kinds store) reference.activation)
+      (row_after kinds store reference one_cell stands aims new
+      ∙ ap (λ cells. front ++ (cells ++ rest)) (number_cells new is)
+      ∙ sym (ap (λ cells. slice_set cells at (number_cell (number_in new)))
+      (row_flat kinds store reference one_cell stands aims ∙ one_now)
+      ∙ set_at front _ rest (number_cell (number_in new)) at
+      (begins kinds store reference one_cell stands aims)))
+
+-- behind more kinds the cells are the same
+module _ (kinds more : Kinds) where
+  pub address_more : (reference : Reference) → reference.activation < length kinds
+      → address_of (kinds ++ more) reference ≡ address_of kinds reference
+  address_more reference less =
+      ap₂ (λ row kind. record {
+        activation = reference.activation;
+        offset = cells_before row reference.variable + offset (root_of kind) reference.path;
+      }) (get_or_append_left kinds more [] reference.activation less)
+      (kind_stays kinds more reference.activation reference.variable less)
+
+  pub flat_cell-more : (activation : ℕ) (kind : Kind) (cell : pascal.Cell) → Matches kinds activation kind cell
+      → flat_cell (kinds ++ more) cell ≡ flat_cell kinds cell
+  flat_cell-more activation (plain shape) (own datum) is = refl
+  flat_cell-more activation (plain shape) (refers reference) is = absurd is
+  flat_cell-more activation (named shape) (own datum) is = absurd is
+  flat_cell-more activation (named shape) (refers reference) is =
+      ap (λ (address : Address). Refers address ∷ [])
+      (address_more reference
+      (kind_row kinds reference.activation reference.variable (plain is.0.root) is.0.there))
+
+  pub flat_row-more : (activation : ℕ) (row : List Kind) (cells : List pascal.Cell)
+      → AllMatch kinds activation row cells → flat_row (kinds ++ more) cells ≡ flat_row kinds cells
+  flat_row-more activation [] [] all = refl
+  flat_row-more activation [] (cell ∷ cells) all = absurd all
+  flat_row-more activation (kind ∷ row) [] all = absurd all
+  flat_row-more activation (kind ∷ row) (cell ∷ cells) all =
+      ap₂ (λ (first others : List Cell). first ++ others) (flat_cell-more activation kind cell all.0)
+      (flat_row-more activation row cells all.1)
+
+  pub flat_store-more : (store : Store) → Stands kinds store
+      → flat_store (kinds ++ more) store ≡ flat_store kinds store
+  flat_store-more store stands =
+      map_each (flat_row (kinds ++ more)) (flat_row kinds) [] store
+      (λ activation. flat_row-more activation (slice_index_or kinds activation [])
+      (slice_index_or store activation []) (row_matches kinds store activation stands))
+    where
+      map_each : {A B : Type 0} (f g : A → B) (d : A) (xs : List A)
+          → ((k : ℕ) → f (slice_index_or xs k d) ≡ g (slice_index_or xs k d)) → map f xs ≡ map g xs
+      map_each f g d [] each = refl
+      map_each f g d (x ∷ xs) each = ap₂ ◌∷◌ (each 0) (map_each f g d xs (λ k. each (suc k)))
+
+-- an activation opens and closes
+module _ (kinds : Kinds) (row : List Kind) (store : Store) where
+  pub flat-opened : (cells : List pascal.Cell) → Stands kinds store
+      → flat_store (kinds ++ row ∷ []) (opened cells store)
+      ≡ flat_store kinds store ++ flat_row (kinds ++ row ∷ []) cells ∷ []
+  flat-opened cells stands =
+      map-append (flat_row (kinds ++ row ∷ [])) store (cells ∷ [])
+      ∙ ap (λ (front : List (List Cell)). front ++ flat_row (kinds ++ row ∷ []) cells ∷ [])
+      (flat_store-more kinds (row ∷ []) store stands)
+
+  pub flat-closed : Stands (kinds ++ row ∷ []) store
+      → flat_store kinds (closed store) ≡ take (length kinds) (flat_store (kinds ++ row ∷ []) store)
+  flat-closed stands =
+      let long : top_of store ≡ length kinds = omega (arith, stands.rows, length-append kinds (row ∷ [])) in
+      sym (flat_store-more kinds (row ∷ []) (closed store) (stands_closed kinds row store stands))
+      ∙ sym (take-map (flat_row (kinds ++ row ∷ [])) (top_of store) store)
+      ∙ ap (λ n. take n (flat_store (kinds ++ row ∷ []) store)) long
+
+-- where a variable is: its own cells, or those that its cell refers to
+module _ (kinds : Kinds) (store : Store) (activation variable : ℕ) (stands : Stands kinds store) where
+  pub own_address : (shape : Shape) → kind_at kinds activation variable ≡ Some (plain shape)
+      → address_of kinds (followed activation variable (cell_at activation variable store))
+      ≡ record {
+        activation = activation;
+        offset = cells_before (slice_index_or kinds activation []) variable;
+      }
+  own_address shape there =
+      ap (λ (cell : pascal.Cell). address_of kinds (followed activation variable cell))
+      (own_held kinds activation shape (cell_at activation variable store)
+      (stands.cells activation variable (plain shape) there)).0
+      ∙ ap (λ (at : ℕ). record { activation = activation; offset = at }) (omega arith)
+
+  named_refers : (shape : Shape) (cell : pascal.Cell) → Matches kinds activation (named shape) cell
+      → flat_cell kinds cell ≡ Refers (address_of kinds (followed activation variable cell)) ∷ []
+  named_refers shape (own datum) is = absurd is
+  named_refers shape (refers reference) is = refl
+
+  pub named_address : (shape : Shape) → kind_at kinds activation variable ≡ Some (named shape)
+      → cell_in (record {
+        activation = activation;
+        offset = cells_before (slice_index_or kinds activation []) variable;
+      }) (flat_store kinds store)
+      ≡ Refers (address_of kinds (followed activation variable (cell_at activation variable store)))
+  named_address shape there =
+      let row = slice_index_or kinds activation [] in
+      let cells = slice_index_or store activation [] in
+      let on = variable_stands kinds activation row cells variable (named shape)
+      (row_matches kinds store activation stands) there in
+      let less : activation < length store =
+      omega (arith, kind_row kinds activation variable (named shape) there, stands.rows) in
+      ap (λ (found : List Cell). slice_index_or found (cells_before row variable) Undefined)
+      (get_or-map (flat_row kinds) store activation [] [] less ∙ on.now
+      ∙ ap (λ (found : List Cell). on.before ++ (found ++ on.behind))
+      (named_refers shape (cell_at activation variable store)
+      (stands.cells activation variable (named shape) there)))
+      ∙ get_or_at on.before _ on.behind Undefined (cells_before row variable) on.begins
