@@ -1,2 +1,4 @@
 -- What private contracts say. No contract of a public call cites this.
 pub mod FlatStore
+pub mod MachineState
+pub mod Doings

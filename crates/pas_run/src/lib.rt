@@ -2,6 +2,7 @@
 #![tactic(auto)]
 
 mod cells;
+mod ends;
 mod files;
 mod lines;
 mod refusals;

@@ -1,0 +1,138 @@
+-- What a machine does, one thing behind another.
+use Rattle.std.proofs.Common.{◌≡◌, List, refl, sym, ap, ◌∙◌, subst, Result, Ok, Err}
+use Rattle.wb_ports.specs.PortState.{PortState}
+use Rattle.pas_meaning.specs.Answers.{Answer, fine, wrong}
+use Rattle.pas_meaning.specs.Outcome.{World, Run, Outcome, gives, ends, errs, Doing, halted, going, too_deep, pure}
+use Rattle.pas_meaning.specs.Outcome.{and_then, ◌>>=◌, answered}
+use Rattle.pas_meaning.specs.Store.{Datum, Store}
+use Rattle.pas_meaning.specs.Standing.{Kinds}
+use Rattle.pas_meaning.specs.Laws.{Extends, Onward, Goes, world_of}
+use Rattle.pas_meaning.proofs.OnwardLemmas.{extends_on}
+use Rattle.pas_meaning.specs.Operands.{operand}
+use Rattle.pas_run.specs.declared.ends.Stop.{Stop}
+use Rattle.pas_run.specs.declared.ends.Stop.TheVariants as stop
+use Rattle.pas_run.specs.inner.MachineState.{KeptFile, MachineState, IsRun}
+use Rattle.pas_run.specs.inner.Doings.{IsMoment, StopsBy, Done, Does, Answers}
+
+-- a moment stays one where the run goes on, and where it began earlier
+onward_end : {A B : Type 0} (outcome : Outcome Store A) (next : A → Doing Store B) → ((value : A) → Goes (next value))
+    → Extends (world_of outcome).trail (world_of (and_then outcome next)).trail
+onward_end (gives value run) next goes = ((goes value).each run).trail
+onward_end (ends end world) next goes = Extends.as_it_was
+onward_end (errs kind world) next goes = Extends.as_it_was
+
+moment_on : (files : List KeptFile) (before later last : World) → Extends later.trail last.trail
+    → IsMoment files before later → IsMoment files before last
+moment_on files before later last more moment = record {
+  trail = moment.trail;
+  from = moment.from;
+  until = extends_on moment.until more;
+  shown = moment.shown;
+}
+
+moment_earlier : (files : List KeptFile) (first before later : World) → Onward first before
+    → IsMoment files before later → IsMoment files first later
+moment_earlier files first before later onward moment = record {
+  trail = moment.trail;
+  from = extends_on onward.trail moment.from;
+  until = moment.until;
+  shown = λ given was. moment.shown given (onward.files given was);
+}
+
+-- what stops the first thing stops the whole
+module _ {A B T U : Type 0} (middle later : Kinds) (ports : List PortState) (Is : T → A → Type 0)
+    (IsThen : U → B → Type 0) (before : World) (outcome : Outcome Store A) (next : A → Doing Store B)
+    (goes : (value : A) → Goes (next value)) (now : MachineState) where
+  pub stops_whole : (why : Stop) → StopsBy middle ports Is before outcome now why
+      → StopsBy later ports IsThen before (and_then outcome next) now why
+  stops_whole (stop.Halted status) h =
+      (h.0, record { same = ap (λ outcome. and_then outcome next) h.1.same; stands = h.1.stands })
+  stops_whole stop.Going h =
+      (h.0, record { same = ap (λ outcome. and_then outcome next) h.1.same; stands = h.1.stands })
+  stops_whole (stop.Wrong kind) h =
+      (h.0, record { same = ap (λ outcome. and_then outcome next) h.1.same; stands = h.1.stands })
+  stops_whole stop.TooDeep h =
+      (h.0, record { same = ap (λ outcome. and_then outcome next) h.1.same; stands = h.1.stands })
+  stops_whole stop.PortFailed h =
+      moment_on now.files before (world_of outcome) (world_of (and_then outcome next))
+      (onward_end outcome next goes) h
+  stops_whole stop.OutOfMemory h = tt
+
+-- what is done from a later world of a run
+module _ {A T : Type 0} (later : Kinds) (ports : List PortState) (Is : T → A → Type 0) (first before : World)
+    (onward : Onward first before) (outcome : Outcome Store A) (now : MachineState) where
+  stops_earlier : (why : Stop) → StopsBy later ports Is before outcome now why
+      → StopsBy later ports Is first outcome now why
+  stops_earlier (stop.Halted status) h = (h.0, record { same = h.1.same; stands = h.1.stands })
+  stops_earlier stop.Going h = (h.0, record { same = h.1.same; stands = h.1.stands })
+  stops_earlier (stop.Wrong kind) h = (h.0, record { same = h.1.same; stands = h.1.stands })
+  stops_earlier stop.TooDeep h = (h.0, record { same = h.1.same; stands = h.1.stands })
+  stops_earlier stop.PortFailed h = moment_earlier now.files first before (world_of outcome) onward h
+  stops_earlier stop.OutOfMemory h = tt
+
+  pub done_earlier : (result : Result T Stop) → Done later ports Is before outcome now result
+      → Done later ports Is first outcome now result
+  done_earlier (Ok found) h =
+      record { value = h.value; run = h.run; same = h.same; is = h.is; stands = h.stands }
+  done_earlier (Err why) h = stops_earlier why h
+
+-- one thing behind another
+module _ {A B T U : Type 0} (kinds middle later : Kinds) (Is : T → A → Type 0) (IsThen : U → B → Type 0)
+    (first : Doing Store A) (next : A → Doing Store B) (before : MachineState) where
+  pub does_stop : (now : MachineState) (why : Stop) → ((value : A) → Goes (next value))
+      → Does kinds middle Is first before now (Err why) → Does kinds later IsThen (first >>= next) before now (Err why)
+  does_stop now why goes does = record {
+    each = λ ports run stands. stops_whole middle later ports Is IsThen run.world (first run) next goes now why
+        (does.each ports run stands);
+  }
+
+  pub does_next : (between now : MachineState) (found : T) (result : Result U Stop) → Goes first
+      → Does kinds middle Is first before between (Ok found)
+      → ((value : A) → Is found value → Does middle later IsThen (next value) between now result)
+      → Does kinds later IsThen (first >>= next) before now result
+  does_next between now found result goes does then_does = record {
+    each = λ ports run stands.
+        let given = does.each ports run stands in
+        let onward : Onward run.world given.run.world =
+        subst (λ outcome. Onward run.world (world_of outcome)) given.same (goes.each run) in
+        subst (λ outcome. Done later ports IsThen run.world (and_then outcome next) now result) (sym given.same)
+        (done_earlier later ports IsThen run.world given.run.world onward (next given.value given.run) now result
+        ((then_does given.value given.is).each ports given.run given.stands));
+  }
+
+-- what takes nothing of the machine: a value, and an answer
+pub does_pure : {A T : Type 0} (kinds : Kinds) (Is : T → A → Type 0) (found : T) (value : A) (machine : MachineState)
+    → Is found value → Does kinds kinds Is (pure value) machine machine (Ok found)
+does_pure kinds Is found value machine is = record {
+  each = λ ports run stands. record { value = value; run = run; same = refl; is = is; stands = stands };
+}
+
+pub does_answered : {A T : Type 0} (kinds : Kinds) (Is : T → A → Type 0) (answer : Answer A)
+    (machine : MachineState) (result : Result T Stop) → Answers Is answer result
+    → Does kinds kinds Is (answered answer) machine machine result
+does_answered kinds Is answer machine (Ok found) h = record {
+  each = λ ports run stands. record {
+    value = h.0;
+    run = run;
+    same = ap (λ answer. answered answer run) h.1;
+    is = h.2;
+    stands = stands;
+  };
+}
+does_answered kinds Is answer machine (Err (stop.Wrong kind)) h = record {
+  each = λ ports run stands.
+      (run.world, record { same = ap (λ answer. answered answer run) h; stands = stands.world });
+}
+does_answered kinds Is answer machine (Err (stop.Halted status)) h = absurd h
+does_answered kinds Is answer machine (Err stop.Going) h = absurd h
+does_answered kinds Is answer machine (Err stop.TooDeep) h = absurd h
+does_answered kinds Is answer machine (Err stop.PortFailed) h = absurd h
+does_answered kinds Is answer machine (Err stop.OutOfMemory) h = absurd h
+
+-- where a `?` returns early
+pub does_early : {A T : Type 0} (kinds later : Kinds) (Is : T → A → Type 0) (doing : Doing Store A)
+    (before now : MachineState) (why : Stop) (result : Result T Stop)
+    → ((found : Stop) × (result ≡ Err found) × (found ≡ why)) → Does kinds later Is doing before now (Err why)
+    → Does kinds later Is doing before now result
+does_early kinds later Is doing before now why result is does =
+    subst (Does kinds later Is doing before now) (sym (is.1 ∙ ap Err is.2)) does

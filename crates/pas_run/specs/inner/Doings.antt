@@ -1,0 +1,70 @@
+-- What functions of a machine do: the steps of a run that it stands for. This project's own.
+use Rattle.std.specs.Prelude.{◌≡◌, ℕ, List, Bool, true, false, Result, Ok, Err, ⊤}
+use Rattle.wb_ports.specs.PortState.{PortState}
+use Rattle.pas_meaning.specs.Answers.{Answer, fine, wrong}
+use Rattle.pas_meaning.specs.Outcome.{Output, World, Run, Outcome, gives, ends, errs, Doing, halted, going, too_deep}
+use Rattle.pas_meaning.specs.Outcome.{replay}
+use Rattle.pas_meaning.specs.Store.{Store}
+use Rattle.pas_meaning.specs.Standing.{Kinds}
+use Rattle.pas_meaning.specs.Laws.{Extends, bytes_in, world_of}
+use Rattle.pas_run.specs.declared.refusals.Refused.{Refused}
+use Rattle.pas_run.specs.declared.refusals.Refused.TheVariants as refused
+use Rattle.pas_run.specs.declared.ends.Stop.{Stop}
+use Rattle.pas_run.specs.declared.ends.Stop.TheVariants as stop
+use Rattle.pas_run.specs.inner.MachineState.{KeptFile, MachineState, AreShown, IsWorld, IsRun}
+
+-- why a run stops where a step of a file is not made
+abbrev pub stop_by : Refused → Stop
+stop_by (refused.Wrong kind) = stop.Wrong kind
+stop_by refused.Failed = stop.PortFailed
+
+-- whether a run stops since a call of a port failed
+abbrev pub is_port_failed : {T : Type 0} → Result T Stop → Bool
+is_port_failed (Err stop.PortFailed) = true
+is_port_failed result = false
+
+-- the ports tell what the files held at a moment between a world and a later one
+pub record IsMoment (files : List KeptFile) (before later : World) : Type 0 where
+  pub trail : List Output
+  pub from : Extends before.trail trail
+  pub until : Extends trail later.trail
+  pub shown : (given : List (List ℕ)) → replay given before.trail ≡ bytes_in before
+      → AreShown files (replay given trail)
+
+-- what a machine answers stands for an outcome of a run that began with this world: `Is` relates what both give
+module _ {A T : Type 0} (later : Kinds) (ports : List PortState) (Is : T → A → Type 0) (before : World)
+    (outcome : Outcome Store A) (now : MachineState) where
+  pub record Gives (found : T) : Type 0 where
+    pub value : A
+    pub run : Run Store
+    pub same : outcome ≡ gives value run
+    pub is : Is found value
+    pub stands : IsRun later ports now run
+
+  pub record EndsWith (world : World) (end : Outcome Store A) : Type 0 where
+    pub same : outcome ≡ end
+    pub stands : IsWorld ports now world
+
+  abbrev pub StopsBy : Stop → Type 0
+  StopsBy (stop.Halted status) = (world : World) × EndsWith world (ends (halted status) world)
+  StopsBy stop.Going = (world : World) × EndsWith world (ends going world)
+  StopsBy (stop.Wrong kind) = (world : World) × EndsWith world (errs kind world)
+  StopsBy stop.TooDeep = (world : World) × EndsWith world (ends too_deep world)
+  StopsBy stop.PortFailed = IsMoment now.files before (world_of outcome)
+  StopsBy stop.OutOfMemory = ⊤
+
+  abbrev pub Done : Result T Stop → Type 0
+  Done (Ok found) = Gives found
+  Done (Err why) = StopsBy why
+
+-- a machine does this: from each run that it stands for
+pub record Does {A T : Type 0} (kinds later : Kinds) (Is : T → A → Type 0) (doing : Doing Store A)
+    (before now : MachineState) (result : Result T Stop) : Type 0 where
+  pub each : (ports : List PortState) (run : Run Store) → IsRun kinds ports before run
+      → Done later ports Is run.world (doing run) now result
+
+-- what an answer of the meaning is to the machine
+abbrev pub Answers : {A T : Type 0} → (T → A → Type 0) → Answer A → Result T Stop → Type 0
+Answers {A} Is answer (Ok found) = (value : A) × (answer ≡ fine value) × Is found value
+Answers Is answer (Err (stop.Wrong kind)) = answer ≡ wrong kind
+Answers Is answer (Err why) = ⊥
