@@ -2,3 +2,4 @@ pub mod ReadingLemmas
 pub mod WritingLemmas
 pub mod FlatLemmas
 pub mod DoesLemmas
+pub mod MachineLemmas

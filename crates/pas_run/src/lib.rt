@@ -5,6 +5,7 @@ mod cells;
 mod ends;
 mod files;
 mod lines;
+mod machine;
 mod refusals;
 
 pub use files::{Ahead, FileState, RunFile, Usage};

@@ -63,6 +63,10 @@ pub record Does {A T : Type 0} (kinds later : Kinds) (Is : T → A → Type 0) (
   pub each : (ports : List PortState) (run : Run Store) → IsRun kinds ports before run
       → Done later ports Is run.world (doing run) now result
 
+-- whatever both give
+abbrev pub Any : {A T : Type 0} → T → A → Type 0
+Any found value = ⊤
+
 -- what an answer of the meaning is to the machine
 abbrev pub Answers : {A T : Type 0} → (T → A → Type 0) → Answer A → Result T Stop → Type 0
 Answers {A} Is answer (Ok found) = (value : A) × (answer ≡ fine value) × Is found value

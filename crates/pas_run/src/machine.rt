@@ -1,0 +1,126 @@
+//! What a run holds: the activations, its steps and its active calls, and its files.
+ghost use Rattle.std.specs.Prelude.{◌≡◌, ◌≤◌, ◌<◌, ◌+◌, ◌-◌, ◌^◌, length, IfOk, OnErr, ⊤};
+ghost use Rattle.pas_meaning.specs.declared.errors.TheConstants.{CALL_LIMIT};
+ghost use Rattle.std.specs.Prelude.{Some};
+ghost use Rattle.pas_meaning.specs.Outcome as run;
+ghost use Rattle.pas_meaning.specs.Standing.{Kinds};
+ghost use Rattle.pas_run.specs.inner.FlatStore.{cell_in, with_cell, cells_at, cells_of, with_cells};
+ghost use Rattle.pas_run.specs.inner.Doings.{Does, Any};
+
+use crate::cells::{Address, Cell};
+use crate::ends::Stop;
+use crate::files::RunFile;
+use pas_meaning::CALL_LIMIT;
+use std::alloc::Global;
+use std::marker::Model;
+use wb_ports::Port;
+
+// What a run holds.
+#[derive(Drop)]
+pub(crate) struct Machine<P: Port> {
+    alloc: Global,
+    // The cells of the activations, the program's first.
+    activations: Vec<Vec<Cell>>,
+    // The steps that are left.
+    steps: u64,
+    // The active calls.
+    calls: u32,
+    // The files.
+    files: Vec<RunFile<P>>,
+}
+
+impl<P: Port> Model for Machine<P> {
+    ghost use Rattle.std.specs.Prelude.{◌<◌, ◌^◌, length, map};
+    ghost use Rattle.pas_run.specs.inner.MachineState.{MachineState};
+
+    ghost Value = { MachineState };
+
+    ghost view = { λ machine. record {
+      activations = map (λ cells. cells.items) machine.activations.items;
+      steps = machine.steps;
+      calls = machine.calls;
+      files = map (λ file. record {
+        state = file.state;
+        told = P.told file.port;
+        failures = P.failures file.port;
+      }) machine.files.items;
+    } };
+
+    ghost invariant = { λ machine. length machine.activations.items < 2 ^ 32 };
+}
+
+impl<P: Port> Machine<P> {
+    // The number of the activation that runs.
+    pub(crate) fn top(&self) -> u32
+        ensures { result ≡ length self.now.activations - 1 }
+    {
+        self.activations.len().saturating_sub(1) as u32
+    }
+
+    // What a cell holds.
+    pub(crate) fn cell(&self, at: Address) -> Cell
+        ensures { result ≡ cell_in at self.now.activations }
+    {
+        match self.activations.get(at.activation as usize) {
+            Some(cells) => match cells.get(at.offset as usize) {
+                Some(cell) => *cell,
+                None => Cell::Undefined,
+            },
+            None => Cell::Undefined,
+        }
+    }
+
+    // Stores something in a cell.
+    pub(crate) fn set_cell(&mut self, at: Address, cell: Cell)
+        ensures { self.new ≡ record self.old { activations = with_cell at cell self.old.activations } }
+    {
+        let activation = at.activation as usize;
+        let offset = at.offset as usize;
+        if activation < self.activations.len() && offset < self.activations[activation].len() {
+            self.activations[activation][offset] = cell;
+        }
+    }
+
+    // So many cells from one on.
+    pub(crate) fn cells(&self, at: Address, count: u32) -> &[Cell]
+        ensures { result.now ≡ cells_at at count self.now.activations }
+    {
+        match self.activations.get(at.activation as usize) {
+            Some(cells) => {
+                let first = cells.len().min(at.offset as usize);
+                let rest = &cells.as_slice()[first..];
+                &rest[..rest.len().min(count as usize)]
+            }
+            None => &[],
+        }
+    }
+
+    // Takes a step, if one is left.
+    pub(crate) fn take_step(&mut self) -> Result<(), Stop>
+        ensures does { (kinds : Kinds) → Does kinds kinds Any run.take_step self.old self.new result }
+        ensures fewer { IfOk result (λ _. self.new.steps + 1 ≡ self.old.steps) }
+        ensures files { self.new.files ≡ self.old.files }
+        ensures cells { self.new.activations ≡ self.old.activations }
+    {
+        if self.steps == 0 {
+            return Err(Stop::Going);
+        }
+        self.steps -= 1;
+        Ok(())
+    }
+
+    // Begins a call, unless as many are active as may be.
+    pub(crate) fn begin_call(&mut self) -> Result<(), Stop>
+        ensures does { (kinds : Kinds) → Does kinds kinds Any (run.begin_call (Some CALL_LIMIT)) self.old self.new
+            result }
+        ensures files { self.new.files ≡ self.old.files }
+        ensures steps { self.new.steps ≡ self.old.steps }
+        ensures cells { self.new.activations ≡ self.old.activations }
+    {
+        if self.calls >= CALL_LIMIT {
+            return Err(Stop::TooDeep);
+        }
+        self.calls += 1;
+        Ok(())
+    }
+}
