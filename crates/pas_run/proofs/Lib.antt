@@ -3,3 +3,4 @@ pub mod WritingLemmas
 pub mod FlatLemmas
 pub mod DoesLemmas
 pub mod MachineLemmas
+pub mod SceneLemmas

@@ -2,3 +2,4 @@
 pub mod FlatStore
 pub mod MachineState
 pub mod Doings
+pub mod Scenes

@@ -4,6 +4,7 @@
 mod cells;
 mod ends;
 mod files;
+mod layouts;
 mod lines;
 mod machine;
 mod refusals;

@@ -29,10 +29,11 @@ use Rattle.pas_typed.specs.declared.typed.Statement.TheOpen.{Statement-F, Arm-F,
 use Rattle.pas_typed.specs.declared.typed.Statement.TheFolds.{fold-Statement, fold-Arm, fold-Labelled}
 use Rattle.pas_typed.specs.declared.typed.Heading.{Heading as CodeHeading}
 use Rattle.pas_typed.specs.declared.typed.Body.{Body as CodeBody}
+use Rattle.pas_typed.specs.declared.typed.TypedProgram.{TypedProgram as CodeProgram}
 use Rattle.pas_typed.specs.Typed as typed
 use Rattle.pas_typed.specs.Typed.{Home, Mode, Variable, Slot, Function, FileTest, FileStep, Value, Place, Passed, Item}
-use Rattle.pas_typed.specs.Typed.{Statement, Statements, Arms, Heading, Body}
-use Rattle.pas_typed.specs.TypeViews.{base_view, range_view, type_view}
+use Rattle.pas_typed.specs.Typed.{Statement, Statements, Arms, Heading, Body, TypedProgram}
+use Rattle.pas_typed.specs.TypeViews.{base_view, range_view, type_view, table_view}
 
 abbrev pub home_view : CodeHome → Home
 home_view home.Global = typed.global
@@ -225,3 +226,15 @@ module _ (spellings : List ℕ) where
         labels = body.labels;
         statements = statements_view body.statements;
       }
+
+abbrev pub program_view : CodeProgram → TypedProgram
+program_view program =
+    record {
+      types = table_view program.spellings program.types;
+      globals = map (variable_view program.spellings) program.globals;
+      files = program.files;
+      headings = map (heading_view program.spellings) program.headings;
+      bodies = map (body_view program.spellings) program.bodies;
+      labels = program.labels;
+      statements = statements_view program.spellings program.statements;
+    }

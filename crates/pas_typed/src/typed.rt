@@ -6,10 +6,11 @@ ghost use Rattle.pas_typed.specs.TypeOf as spec;
 ghost use Rattle.pas_typed.specs.TypeViews.{type_view};
 ghost use Rattle.pas_typed.specs.TypedViews.{function_view, part_view, place_view, value_view};
 
-use crate::types::{Base, PasType, Range};
+use crate::types::{Base, PasType, Range, Table};
 use pas_syntax::tree::Span;
 use pas_syntax::{Adding, Multiplying, Relation, Sign, Way};
 use sqlite_items::{Boxed, Items};
+use wb_base::Text;
 
 /// Whether a variable is one of the program or of the routine.
 #[derive(Clone, Copy, Debug, PartialEq, Eq)]
@@ -354,5 +355,26 @@ pub struct Body {
     /// The labels.
     pub labels: Items<u32>,
     /// The statements.
+    pub statements: Statements,
+}
+
+/// A typed program.
+#[derive(Drop)]
+pub struct TypedProgram {
+    /// The spellings of its names and texts, one after another.
+    pub spellings: Text,
+    /// Its types.
+    pub types: Table,
+    /// Its variables.
+    pub globals: Items<Variable>,
+    /// The numbers of the variables that its parameters are, in their order.
+    pub files: Items<u32>,
+    /// The headings of its routines, in the order of the first ones.
+    pub headings: Items<Heading>,
+    /// The bodies of its routines, in their own order.
+    pub bodies: Items<Body>,
+    /// Its labels.
+    pub labels: Items<u32>,
+    /// Its statements.
     pub statements: Statements,
 }
