@@ -1,18 +1,20 @@
 -- What a machine does, one thing behind another.
-use Rattle.std.proofs.Common.{◌≡◌, List, refl, sym, ap, ◌∙◌, subst, Result, Ok, Err}
+use Rattle.std.proofs.Common.{◌≡◌, ◌≤◌, ℕ, arith, List, refl, sym, ap, ◌∙◌, subst, Result, Ok, Err}
+use Rattle.std.proofs.Common.{◌+◌, suc, Bool, true, false, length, slice_index_or}
+use Rattle.std.proofs.lemmas.List.{length-map}
 use Rattle.wb_ports.specs.PortState.{PortState}
 use Rattle.pas_meaning.specs.Answers.{Answer, fine, wrong}
 use Rattle.pas_meaning.specs.Outcome.{World, Run, Outcome, gives, ends, errs, Doing, halted, going, too_deep, pure}
-use Rattle.pas_meaning.specs.Outcome.{and_then, ◌>>=◌, answered}
+use Rattle.pas_meaning.specs.Outcome.{and_then, ◌>>=◌, ◌>>◌, answered, take_step}
 use Rattle.pas_meaning.specs.Store.{Datum, Store}
 use Rattle.pas_meaning.specs.Standing.{Kinds}
 use Rattle.pas_meaning.specs.Laws.{Extends, Onward, Goes, world_of}
-use Rattle.pas_meaning.proofs.OnwardLemmas.{extends_on}
-use Rattle.pas_meaning.specs.Operands.{operand}
+use Rattle.pas_meaning.proofs.OnwardLemmas.{extends_on, goes_step}
 use Rattle.pas_run.specs.declared.ends.Stop.{Stop}
 use Rattle.pas_run.specs.declared.ends.Stop.TheVariants as stop
-use Rattle.pas_run.specs.inner.MachineState.{KeptFile, MachineState, IsRun}
-use Rattle.pas_run.specs.inner.Doings.{IsMoment, StopsBy, Done, Does, Answers}
+use Rattle.wb_ports.specs.Counts.{Rose}
+use Rattle.pas_run.specs.inner.MachineState.{KeptFile, MachineState, IsRun, failures_of, CountFailures}
+use Rattle.pas_run.specs.inner.Doings.{Any, IsMoment, StopsBy, Done, Does, Answers}
 
 -- a moment stays one where the run goes on, and where it began earlier
 onward_end : {A B : Type 0} (outcome : Outcome Store A) (next : A → Doing Store B) → ((value : A) → Goes (next value))
@@ -77,41 +79,43 @@ module _ {A T : Type 0} (later : Kinds) (ports : List PortState) (Is : T → A �
   done_earlier (Err why) h = stops_earlier why h
 
 -- one thing behind another
-module _ {A B T U : Type 0} (kinds middle later : Kinds) (Is : T → A → Type 0) (IsThen : U → B → Type 0)
-    (first : Doing Store A) (next : A → Doing Store B) (before : MachineState) where
+module _ {A B T U : Type 0} (most : ℕ) (kinds middle later : Kinds) (Is : T → A → Type 0)
+    (IsThen : U → B → Type 0) (first : Doing Store A) (next : A → Doing Store B) (before : MachineState) where
   pub does_stop : (now : MachineState) (why : Stop) → ((value : A) → Goes (next value))
-      → Does kinds middle Is first before now (Err why) → Does kinds later IsThen (first >>= next) before now (Err why)
+      → Does most kinds middle Is first before now (Err why)
+      → Does most kinds later IsThen (first >>= next) before now (Err why)
   does_stop now why goes does = record {
-    each = λ ports run stands. stops_whole middle later ports Is IsThen run.world (first run) next goes now why
-        (does.each ports run stands);
+    each = λ ports run stands within. stops_whole middle later ports Is IsThen run.world (first run) next goes now why
+        (does.each ports run stands within);
   }
 
   pub does_next : (between now : MachineState) (found : T) (result : Result U Stop) → Goes first
-      → Does kinds middle Is first before between (Ok found)
-      → ((value : A) → Is found value → Does middle later IsThen (next value) between now result)
-      → Does kinds later IsThen (first >>= next) before now result
+      → Does most kinds middle Is first before between (Ok found)
+      → ((value : A) → Is found value → Does most middle later IsThen (next value) between now result)
+      → Does most kinds later IsThen (first >>= next) before now result
   does_next between now found result goes does then_does = record {
-    each = λ ports run stands.
-        let given = does.each ports run stands in
+    each = λ ports run stands within.
+        let given = does.each ports run stands within in
         let onward : Onward run.world given.run.world =
         subst (λ outcome. Onward run.world (world_of outcome)) given.same (goes.each run) in
         subst (λ outcome. Done later ports IsThen run.world (and_then outcome next) now result) (sym given.same)
         (done_earlier later ports IsThen run.world given.run.world onward (next given.value given.run) now result
-        ((then_does given.value given.is).each ports given.run given.stands));
+        ((then_does given.value given.is).each ports given.run given.stands
+        (omega (arith, onward.steps, within))));
   }
 
 -- what takes nothing of the machine: a value, and an answer
-pub does_pure : {A T : Type 0} (kinds : Kinds) (Is : T → A → Type 0) (found : T) (value : A) (machine : MachineState)
-    → Is found value → Does kinds kinds Is (pure value) machine machine (Ok found)
-does_pure kinds Is found value machine is = record {
-  each = λ ports run stands. record { value = value; run = run; same = refl; is = is; stands = stands };
+pub does_pure : {A T : Type 0} (most : ℕ) (kinds : Kinds) (Is : T → A → Type 0) (found : T) (value : A) (machine : MachineState)
+    → Is found value → Does most kinds kinds Is (pure value) machine machine (Ok found)
+does_pure most kinds Is found value machine is = record {
+  each = λ ports run stands within. record { value = value; run = run; same = refl; is = is; stands = stands };
 }
 
-pub does_answered : {A T : Type 0} (kinds : Kinds) (Is : T → A → Type 0) (answer : Answer A)
+pub does_answered : {A T : Type 0} (most : ℕ) (kinds : Kinds) (Is : T → A → Type 0) (answer : Answer A)
     (machine : MachineState) (result : Result T Stop) → Answers Is answer result
-    → Does kinds kinds Is (answered answer) machine machine result
-does_answered kinds Is answer machine (Ok found) h = record {
-  each = λ ports run stands. record {
+    → Does most kinds kinds Is (answered answer) machine machine result
+does_answered most kinds Is answer machine (Ok found) h = record {
+  each = λ ports run stands within. record {
     value = h.0;
     run = run;
     same = ap (λ answer. answered answer run) h.1;
@@ -119,20 +123,54 @@ does_answered kinds Is answer machine (Ok found) h = record {
     stands = stands;
   };
 }
-does_answered kinds Is answer machine (Err (stop.Wrong kind)) h = record {
-  each = λ ports run stands.
+does_answered most kinds Is answer machine (Err (stop.Wrong kind)) h = record {
+  each = λ ports run stands within.
       (run.world, record { same = ap (λ answer. answered answer run) h; stands = stands.world });
 }
-does_answered kinds Is answer machine (Err (stop.Halted status)) h = absurd h
-does_answered kinds Is answer machine (Err stop.Going) h = absurd h
-does_answered kinds Is answer machine (Err stop.TooDeep) h = absurd h
-does_answered kinds Is answer machine (Err stop.PortFailed) h = absurd h
-does_answered kinds Is answer machine (Err stop.OutOfMemory) h = absurd h
+does_answered most kinds Is answer machine (Err (stop.Halted status)) h = absurd h
+does_answered most kinds Is answer machine (Err stop.Going) h = absurd h
+does_answered most kinds Is answer machine (Err stop.TooDeep) h = absurd h
+does_answered most kinds Is answer machine (Err stop.PortFailed) h = absurd h
+does_answered most kinds Is answer machine (Err stop.OutOfMemory) h = absurd h
 
 -- where a `?` returns early
-pub does_early : {A T : Type 0} (kinds later : Kinds) (Is : T → A → Type 0) (doing : Doing Store A)
+pub does_early : {A T : Type 0} (most : ℕ) (kinds later : Kinds) (Is : T → A → Type 0) (doing : Doing Store A)
     (before now : MachineState) (why : Stop) (result : Result T Stop)
-    → ((found : Stop) × (result ≡ Err found) × (found ≡ why)) → Does kinds later Is doing before now (Err why)
-    → Does kinds later Is doing before now result
-does_early kinds later Is doing before now why result is does =
-    subst (Does kinds later Is doing before now) (sym (is.1 ∙ ap Err is.2)) does
+    → ((found : Stop) × (result ≡ Err found) × (found ≡ why))
+    → Does most kinds later Is doing before now (Err why) → Does most kinds later Is doing before now result
+does_early most kinds later Is doing before now why result is does =
+    subst (Does most kinds later Is doing before now) (sym (is.1 ∙ ap Err is.2)) does
+
+-- the steps that are left are fewer behind a step
+pub does_behind_step : {A T : Type 0} (most : ℕ) (kinds later : Kinds) (Is : T → A → Type 0) (next : Doing Store A)
+    (before between now : MachineState) (result : Result T Stop) → between.steps + 1 ≡ before.steps
+    → Does (suc most) kinds kinds Any take_step before between (Ok (tt {0}))
+    → Does most kinds later Is next between now result
+    → Does (suc most) kinds later Is (take_step >> next) before now result
+does_behind_step most kinds later Is next before between now result fewer step then_does = record {
+  each = λ ports run stands within.
+      let given = step.each ports run stands within in
+      let onward : Onward run.world given.run.world =
+      subst (λ outcome. Onward run.world (world_of outcome)) given.same (goes_step.each run) in
+      subst (λ outcome. Done later ports Is run.world (and_then outcome (λ done. next)) now result) (sym given.same)
+      (done_earlier later ports Is run.world given.run.world onward (next given.run) now result
+      (then_does.each ports given.run given.stands
+      (omega (arith, fewer, within, stands.world.steps, given.stands.world.steps))));
+}
+
+-- where no call of a port failed in a first part
+pub counts_on : (failed : Bool) (first between now : List KeptFile) → CountFailures false first between
+    → CountFailures failed between now → CountFailures failed first now
+counts_on true first between now same counts = record {
+  number = counts.number;
+  there = omega (
+    arith,
+    counts.there,
+    ap length same,
+    length-map first (λ (kept : KeptFile). kept.failures),
+    length-map between (λ (kept : KeptFile). kept.failures),
+  );
+  rose = subst (λ failures. Rose (slice_index_or failures counts.number 0)
+      (slice_index_or (failures_of now) counts.number 0)) same counts.rose;
+}
+counts_on false first between now same counts = counts ∙ same

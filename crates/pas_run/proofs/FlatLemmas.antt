@@ -102,11 +102,11 @@ own_held kinds activation root (refers reference) is = absurd is
 
 module _ (kinds : Kinds) (store : Store) (reference : Reference) (shape : Shape) (stands : Stands kinds store)
     (aims : Aims kinds reference shape) where
-  abbrev row : List pascal.Cell
-  row = slice_index_or store reference.activation []
+  abbrev its_row : List pascal.Cell
+  its_row = slice_index_or store reference.activation []
 
-  abbrev cell : pascal.Cell
-  cell = cell_at reference.activation reference.variable store
+  abbrev its_cell : pascal.Cell
+  its_cell = cell_at reference.activation reference.variable store
 
   abbrev address : Address
   address = address_of kinds reference
@@ -119,19 +119,19 @@ module _ (kinds : Kinds) (store : Store) (reference : Reference) (shape : Shape)
         stands.rows,
       )
 
-  held : (cell ≡ own (held_by cell)) × IsShaped aims.root (held_by cell)
+  held : (its_cell ≡ own (held_by its_cell)) × IsShaped aims.root (held_by its_cell)
   held =
-      own_held kinds reference.activation aims.root cell
+      own_held kinds reference.activation aims.root its_cell
       (stands.cells reference.activation reference.variable (plain aims.root) aims.there)
 
-  variable_there : VariableStands kinds row reference.variable
+  variable_there : VariableStands kinds its_row reference.variable
       (cells_before (slice_index_or kinds reference.activation []) reference.variable)
   variable_there =
-      variable_stands kinds reference.activation (slice_index_or kinds reference.activation []) row reference.variable
+      variable_stands kinds reference.activation (slice_index_or kinds reference.activation []) its_row reference.variable
       (plain aims.root) (row_matches kinds store reference.activation stands) aims.there
 
-  part_there : StandsAt (held_by cell) reference.path (offset aims.root reference.path)
-  part_there = stands_at reference.path aims.root shape (held_by cell) held.1 aims.leads
+  part_there : StandsAt (held_by its_cell) reference.path (offset aims.root reference.path)
+  part_there = stands_at reference.path aims.root shape (held_by its_cell) held.1 aims.leads
 
   abbrev cells_now : List Cell
   cells_now = variable_there.before ++ map number_cell part_there.before
@@ -152,28 +152,28 @@ module _ (kinds : Kinds) (store : Store) (reference : Reference) (shape : Shape)
         ap (λ root. offset root reference.path) root,
       )
 
-  row_now : flat_row kinds row ≡ cells_now ++ (datum_cells (fetched reference store) ++ cells_behind)
+  row_now : flat_row kinds its_row ≡ cells_now ++ (datum_cells (fetched reference store) ++ cells_behind)
   row_now =
       variable_there.now
       ∙ ap (λ cell. variable_there.before ++ (flat_cell kinds cell ++ variable_there.behind)) held.0
       ∙ ap (λ cells. variable_there.before ++ (map number_cell cells ++ variable_there.behind)) part_there.now
       ∙ ap (λ cells. variable_there.before ++ (cells ++ variable_there.behind))
-      (map_three part_there.before (flat (part_at reference.path (held_by cell))) part_there.behind)
+      (map_three part_there.before (flat (part_at reference.path (held_by its_cell))) part_there.behind)
       ∙ regroup variable_there.before (map number_cell part_there.before) _ (map number_cell part_there.behind)
       variable_there.behind
 
   row_after : (new : Datum)
-      → flat_row kinds (slice_set row reference.variable (own (with_part_at reference.path new (held_by cell))))
+      → flat_row kinds (slice_set its_row reference.variable (own (with_part_at reference.path new (held_by its_cell))))
       ≡ cells_now ++ (datum_cells new ++ cells_behind)
   row_after new =
-      variable_there.after (own (with_part_at reference.path new (held_by cell)))
+      variable_there.after (own (with_part_at reference.path new (held_by its_cell)))
       ∙ ap (λ cells. variable_there.before ++ (map number_cell cells ++ variable_there.behind)) (part_there.after new)
       ∙ ap (λ cells. variable_there.before ++ (cells ++ variable_there.behind))
       (map_three part_there.before (flat new) part_there.behind)
       ∙ regroup variable_there.before (map number_cell part_there.before) _ (map number_cell part_there.behind)
       variable_there.behind
 
-  row_flat : slice_index_or (flat_store kinds store) reference.activation [] ≡ flat_row kinds row
+  row_flat : slice_index_or (flat_store kinds store) reference.activation [] ≡ flat_row kinds its_row
   row_flat = get_or-map (flat_row kinds) store reference.activation [] [] row_there
 
   -- its cells are there

@@ -28,10 +28,10 @@ step_from : (left steps : ℕ) (store : Store) (world : World) → left ≡ suc 
     })
 step_from left steps store world is = ap (λ left. led store world (stepped left world)) is
 
-step_before : (kinds : Kinds) (before : MachineState) → 0 < before.steps
-    → Does kinds kinds Any (take_step {S = Store}) before (record before { steps = before.steps - 1 }) (Ok (tt {0}))
-step_before kinds before some = record {
-  each = λ ports run stands. record {
+step_before : (most : ℕ) (kinds : Kinds) (before : MachineState) → 0 < before.steps
+    → Does most kinds kinds Any (take_step {S = Store}) before (record before { steps = before.steps - 1 }) (Ok (tt {0}))
+step_before most kinds before some = record {
+  each = λ ports run stands within. record {
     value = tt {0};
     run = record run { world = record run.world { steps = before.steps - 1 } };
     same = step_from run.world.steps (before.steps - 1) run.store run.world
@@ -42,11 +42,11 @@ step_before kinds before some = record {
   };
 }
 
-pub step_taken : (kinds : Kinds) (view now : MachineState) → view ≡ now → 0 < view.steps
-    → Does kinds kinds Any (take_step {S = Store}) now (record view { steps = view.steps - 1 }) (Ok (tt {0}))
-step_taken kinds view now same some =
-    subst (λ (before : MachineState). Does kinds kinds Any (take_step {S = Store}) before
-    (record view { steps = view.steps - 1 }) (Ok (tt {0}))) same (step_before kinds view some)
+pub step_taken : (most : ℕ) (kinds : Kinds) (view now : MachineState) → view ≡ now → 0 < view.steps
+    → Does most kinds kinds Any (take_step {S = Store}) now (record view { steps = view.steps - 1 }) (Ok (tt {0}))
+step_taken most kinds view now same some =
+    subst (λ (before : MachineState). Does most kinds kinds Any (take_step {S = Store}) before
+    (record view { steps = view.steps - 1 }) (Ok (tt {0}))) same (step_before most kinds view some)
 
 -- a call begins
 below_limit : (full : Bool) (world : World) (calls : ℕ) (store : Store) → full ≡ false → calls ≡ world.calls + 1
@@ -60,11 +60,11 @@ not_full : (limit calls : ℕ) (full : Bool) → nat_le limit calls ≡ full →
 not_full limit calls true is less = absurd (omega (arith, leb-true limit calls is, less))
 not_full limit calls false is less = refl
 
-call_before : (kinds : Kinds) (before : MachineState) (limit : ℕ) → before.calls < limit
-    → Does kinds kinds Any (begin_call {S = Store} (Some limit)) before (record before { calls = before.calls + 1 })
+call_before : (most : ℕ) (kinds : Kinds) (before : MachineState) (limit : ℕ) → before.calls < limit
+    → Does most kinds kinds Any (begin_call {S = Store} (Some limit)) before (record before { calls = before.calls + 1 })
     (Ok (tt {0}))
-call_before kinds before limit some = record {
-  each = λ ports run stands. record {
+call_before most kinds before limit some = record {
+  each = λ ports run stands within. record {
     value = tt {0};
     run = record run { world = record run.world { calls = before.calls + 1 } };
     same = below_limit (nat_le limit run.world.calls) run.world (before.calls + 1) run.store
@@ -76,12 +76,12 @@ call_before kinds before limit some = record {
   };
 }
 
-pub call_begun : (kinds : Kinds) (view now : MachineState) (limit : ℕ) → view ≡ now → view.calls < limit
-    → Does kinds kinds Any (begin_call {S = Store} (Some limit)) now (record view { calls = view.calls + 1 })
+pub call_begun : (most : ℕ) (kinds : Kinds) (view now : MachineState) (limit : ℕ) → view ≡ now → view.calls < limit
+    → Does most kinds kinds Any (begin_call {S = Store} (Some limit)) now (record view { calls = view.calls + 1 })
     (Ok (tt {0}))
-call_begun kinds view now limit same some =
-    subst (λ (before : MachineState). Does kinds kinds Any (begin_call {S = Store} (Some limit)) before
-    (record view { calls = view.calls + 1 }) (Ok (tt {0}))) same (call_before kinds view limit some)
+call_begun most kinds view now limit same some =
+    subst (λ (before : MachineState). Does most kinds kinds Any (begin_call {S = Store} (Some limit)) before
+    (record view { calls = view.calls + 1 }) (Ok (tt {0}))) same (call_before most kinds view limit some)
 
 -- a cell of one of several vectors is set
 pub cell_set : {G : Type 0} (activations : List (Vec Cell G)) (row : Vec Cell G) (at : Address) (cell : Cell)

@@ -1,5 +1,5 @@
 //! What a run holds: the activations, its steps and its active calls, and its files.
-ghost use Rattle.std.specs.Prelude.{◌≡◌, ◌≤◌, ◌<◌, ◌+◌, ◌-◌, ◌^◌, length, IfOk, OnErr, ⊤};
+ghost use Rattle.std.specs.Prelude.{◌≡◌, ℕ, ◌≤◌, ◌<◌, ◌+◌, ◌-◌, ◌^◌, length, IfOk, OnErr, ⊤};
 ghost use Rattle.pas_meaning.specs.declared.errors.TheConstants.{CALL_LIMIT};
 ghost use Rattle.std.specs.Prelude.{Some};
 ghost use Rattle.pas_meaning.specs.Outcome as run;
@@ -97,7 +97,7 @@ impl<P: Port> Machine<P> {
 
     // Takes a step, if one is left.
     pub(crate) fn take_step(&mut self) -> Result<(), Stop>
-        ensures does { (kinds : Kinds) → Does kinds kinds Any run.take_step self.old self.new result }
+        ensures does { (most : ℕ) (kinds : Kinds) → Does most kinds kinds Any run.take_step self.old self.new result }
         ensures fewer { IfOk result (λ _. self.new.steps + 1 ≡ self.old.steps) }
         ensures files { self.new.files ≡ self.old.files }
         ensures cells { self.new.activations ≡ self.old.activations }
@@ -111,7 +111,7 @@ impl<P: Port> Machine<P> {
 
     // Begins a call, unless as many are active as may be.
     pub(crate) fn begin_call(&mut self) -> Result<(), Stop>
-        ensures does { (kinds : Kinds) → Does kinds kinds Any (run.begin_call (Some CALL_LIMIT)) self.old self.new
+        ensures does { (most : ℕ) (kinds : Kinds) → Does most kinds kinds Any (run.begin_call (Some CALL_LIMIT)) self.old self.new
             result }
         ensures files { self.new.files ≡ self.old.files }
         ensures steps { self.new.steps ≡ self.old.steps }

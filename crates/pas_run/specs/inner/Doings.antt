@@ -1,5 +1,5 @@
 -- What functions of a machine do: the steps of a run that it stands for. This project's own.
-use Rattle.std.specs.Prelude.{◌≡◌, ℕ, List, Bool, true, false, Result, Ok, Err, ⊤}
+use Rattle.std.specs.Prelude.{◌≡◌, ◌≤◌, ℕ, List, Bool, true, false, Result, Ok, Err, ⊤}
 use Rattle.wb_ports.specs.PortState.{PortState}
 use Rattle.pas_meaning.specs.Answers.{Answer, fine, wrong}
 use Rattle.pas_meaning.specs.Outcome.{Output, World, Run, Outcome, gives, ends, errs, Doing, halted, going, too_deep}
@@ -57,10 +57,10 @@ module _ {A T : Type 0} (later : Kinds) (ports : List PortState) (Is : T → A �
   Done (Ok found) = Gives found
   Done (Err why) = StopsBy why
 
--- a machine does this: from each run that it stands for
-pub record Does {A T : Type 0} (kinds later : Kinds) (Is : T → A → Type 0) (doing : Doing Store A)
+-- a machine does this: from each run that it stands for, which has at most so many steps left
+pub record Does {A T : Type 0} (most : ℕ) (kinds later : Kinds) (Is : T → A → Type 0) (doing : Doing Store A)
     (before now : MachineState) (result : Result T Stop) : Type 0 where
-  pub each : (ports : List PortState) (run : Run Store) → IsRun kinds ports before run
+  pub each : (ports : List PortState) (run : Run Store) → IsRun kinds ports before run → run.world.steps ≤ most
       → Done later ports Is run.world (doing run) now result
 
 -- whatever both give

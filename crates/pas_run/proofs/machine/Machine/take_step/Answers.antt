@@ -3,4 +3,4 @@ use Rattle.pas_run.proofs.MachineLemmas.{step_taken}
 use Rattle.pas_run.proofs.machine.Machine.take_step.Goals as goal
 
 pub returns-clause-does : goal.returns-clause-does
-returns-clause-does g c kinds = step_taken kinds _ _ c.self.view_is (omega (arith, c.if-self-eq0.false))
+returns-clause-does g c most kinds = step_taken most kinds _ _ c.self.view_is (omega (arith, c.if-self-eq0.false))
