@@ -1,6 +1,7 @@
 //! Runs Pascal programs.
 #![tactic(auto)]
 
+mod arithmetic;
 mod cells;
 mod ends;
 mod files;

@@ -1,5 +1,5 @@
 -- What functions of a machine do: the steps of a run that it stands for. This project's own.
-use Rattle.std.specs.Prelude.{◌≡◌, ◌≤◌, ℕ, List, Bool, true, false, Result, Ok, Err, ⊤}
+use Rattle.std.specs.Prelude.{◌≡◌, ◌≤◌, ℕ, ℤ, List, Bool, true, false, Result, Ok, Err, ⊤}
 use Rattle.wb_ports.specs.PortState.{PortState}
 use Rattle.pas_meaning.specs.Answers.{Answer, fine, wrong}
 use Rattle.pas_meaning.specs.Outcome.{Output, World, Run, Outcome, gives, ends, errs, Doing, halted, going, too_deep}
@@ -66,6 +66,10 @@ pub record Does {A T : Type 0} (most : ℕ) (kinds later : Kinds) (Is : T → A 
 -- whatever both give
 abbrev pub Any : {A T : Type 0} → T → A → Type 0
 Any found value = ⊤
+
+-- the same number of both
+abbrev pub Same : ℤ → ℤ → Type 0
+Same found value = found ≡ value
 
 -- what an answer of the meaning is to the machine
 abbrev pub Answers : {A T : Type 0} → (T → A → Type 0) → Answer A → Result T Stop → Type 0
