@@ -1,6 +1,6 @@
 -- Where the variables of a scene are.
 use Rattle.std.proofs.Common.{◌≡◌, ℕ, zero, suc, ◌+◌, ◌-◌, ◌<◌, List, [], ◌∷◌, ◌++◌, length, map, Option, Some, None}
-use Rattle.std.proofs.Common.{slice_get, slice_index_or, arith, refl, sym, ap, ◌∙◌}
+use Rattle.std.proofs.Common.{slice_get, slice_index_or, arith, refl, sym, ap, ap₂, ◌∙◌}
 use Rattle.std.proofs.lemmas.List.{length-map}
 use Rattle.std.proofs.lemmas.Option.{slice_get_within}
 use Rattle.pas_typed.specs.Types.{PasType}
@@ -8,6 +8,8 @@ use Rattle.pas_typed.specs.Typed as typed
 use Rattle.pas_typed.specs.Typed.{Home, Mode, Variable, Slot, TypedProgram}
 use Rattle.pas_typed.specs.Lawful.{variables_of, IsLawfulSlot, IsDeclared}
 use Rattle.pas_typed.specs.Shapes.{Shape, shape_of, offset}
+use Rattle.wb_ports.specs.PortState.{PortState}
+use Rattle.pas_meaning.specs.Outcome.{Run}
 use Rattle.pas_meaning.specs.Store.{Store, cell_at, home_by, home_of, top_of, followed}
 use Rattle.pas_meaning.specs.Standing.{Kind, plain, named, kind_by, kind_of, Kinds, kind_at, Stands}
 use Rattle.pas_meaning.proofs.PlaceKeeps.{all_get}
@@ -15,7 +17,9 @@ use Rattle.pas_run.specs.declared.cells.Address.{Address}
 use Rattle.pas_run.specs.declared.cells.Cell.{Cell}
 use Rattle.pas_run.specs.declared.layouts.Layout.{Layout}
 use Rattle.pas_run.specs.declared.layouts.Layouts.{Layouts}
-use Rattle.pas_run.specs.inner.FlatStore.{cells_for, cells_before, root_of, address_of, flat_store, cell_in}
+use Rattle.pas_run.specs.inner.FlatStore.{cells_for, cells_before, root_of, address_of, flat_row, flat_store}
+use Rattle.pas_run.specs.inner.FlatStore.{cell_in, behind_by}
+use Rattle.pas_run.specs.inner.MachineState.{MachineState, IsRun}
 use Rattle.pas_run.specs.inner.Scenes.{IsAt, layout_by, activation_by, own_address, home_in}
 use Rattle.pas_run.proofs.FlatLemmas as flat
 
@@ -100,3 +104,24 @@ module _ (program : TypedProgram) (layouts : Layouts) (locals : Layout) (variabl
       ≡ home_in slot.mode (own_address layouts.globals locals (top_of store) slot.home slot.number)
       (cell_in (own_address layouts.globals locals (top_of store) slot.home slot.number) (flat_store kinds store))
   home_law store slot stands is = home_law_by slot.home store slot stands refl is
+
+  -- the same over a machine
+  pub home_found : (ports : List PortState) (machine : MachineState) (run : Run Store) (slot : Slot)
+      → IsRun kinds ports machine run → IsLawfulSlot program variables slot
+      → home_in slot.mode (own_address layouts.globals locals (length machine.activations - 1) slot.home slot.number)
+      (cell_in (behind_by 0 (own_address layouts.globals locals (length machine.activations - 1) slot.home slot.number))
+      machine.activations)
+      ≡ address_of kinds (home_of slot run.store)
+  home_found ports machine run slot stands is =
+      let many : length machine.activations - 1 ≡ top_of run.store =
+      omega (arith, ap length stands.activations, length-map run.store (flat_row kinds)) in
+      ap₂ (λ top rows. home_in slot.mode (own_address layouts.globals locals top slot.home slot.number)
+      (cell_in (behind_by 0 (own_address layouts.globals locals top slot.home slot.number)) rows))
+      many stands.activations
+      ∙ ap (λ (offset : ℕ). home_in slot.mode
+      (own_address layouts.globals locals (top_of run.store) slot.home slot.number)
+      (cell_in (record {
+        activation = activation_by slot.home (top_of run.store);
+        offset = offset;
+      }) (flat_store kinds run.store))) (omega arith)
+      ∙ sym (home_law run.store slot stands.stands is)

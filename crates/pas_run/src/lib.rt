@@ -8,6 +8,7 @@ mod files;
 mod layouts;
 mod lines;
 mod machine;
+mod places;
 mod refusals;
 
 pub use files::{Ahead, FileState, RunFile, Usage};

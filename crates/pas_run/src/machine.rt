@@ -4,7 +4,7 @@ ghost use Rattle.pas_meaning.specs.declared.errors.TheConstants.{CALL_LIMIT};
 ghost use Rattle.std.specs.Prelude.{Some};
 ghost use Rattle.pas_meaning.specs.Outcome as run;
 ghost use Rattle.pas_meaning.specs.Standing.{Kinds};
-ghost use Rattle.pas_run.specs.inner.FlatStore.{cell_in, with_cell, cells_at, cells_of, with_cells};
+ghost use Rattle.pas_run.specs.inner.FlatStore.{cell_in, with_cell, cells_at, behind_by};
 ghost use Rattle.pas_run.specs.inner.Doings.{Does, Any};
 
 use crate::cells::{Address, Cell};
@@ -57,12 +57,12 @@ impl<P: Port> Machine<P> {
         self.activations.len().saturating_sub(1) as u32
     }
 
-    // What a cell holds.
-    pub(crate) fn cell(&self, at: Address) -> Cell
-        ensures { result ≡ cell_in at self.now.activations }
+    // What the cell holds that stands so many cells behind an address.
+    pub(crate) fn cell(&self, at: Address, behind: u32) -> Cell
+        ensures { result ≡ cell_in (behind_by behind at) self.now.activations }
     {
         match self.activations.get(at.activation as usize) {
-            Some(cells) => match cells.get(at.offset as usize) {
+            Some(cells) => match cells.get(at.offset as usize + behind as usize) {
                 Some(cell) => *cell,
                 None => Cell::Undefined,
             },
@@ -70,24 +70,25 @@ impl<P: Port> Machine<P> {
         }
     }
 
-    // Stores something in a cell.
-    pub(crate) fn set_cell(&mut self, at: Address, cell: Cell)
-        ensures { self.new ≡ record self.old { activations = with_cell at cell self.old.activations } }
+    // Stores something in the cell that stands so many cells behind an address.
+    pub(crate) fn set_cell(&mut self, at: Address, behind: u32, cell: Cell)
+        ensures { self.new
+            ≡ record self.old { activations = with_cell (behind_by behind at) cell self.old.activations } }
     {
         let activation = at.activation as usize;
-        let offset = at.offset as usize;
+        let offset = at.offset as usize + behind as usize;
         if activation < self.activations.len() && offset < self.activations[activation].len() {
             self.activations[activation][offset] = cell;
         }
     }
 
-    // So many cells from one on.
-    pub(crate) fn cells(&self, at: Address, count: u32) -> &[Cell]
-        ensures { result.now ≡ cells_at at count self.now.activations }
+    // So many cells from the one on that stands so many behind an address.
+    pub(crate) fn cells(&self, at: Address, behind: u32, count: u32) -> &[Cell]
+        ensures { result.now ≡ cells_at (behind_by behind at) count self.now.activations }
     {
         match self.activations.get(at.activation as usize) {
             Some(cells) => {
-                let first = cells.len().min(at.offset as usize);
+                let first = cells.len().min(at.offset as usize + behind as usize);
                 let rest = &cells.as_slice()[first..];
                 &rest[..rest.len().min(count as usize)]
             }

@@ -4,7 +4,7 @@ use Rattle.wb_ports.specs.PortState.{PortState}
 use Rattle.pas_meaning.specs.Answers.{Answer, fine, wrong}
 use Rattle.pas_meaning.specs.Outcome.{Output, World, Run, Outcome, gives, ends, errs, Doing, halted, going, too_deep}
 use Rattle.pas_meaning.specs.Outcome.{replay}
-use Rattle.pas_meaning.specs.Store.{Store}
+use Rattle.pas_meaning.specs.Store.{Datum, holds, Store}
 use Rattle.pas_meaning.specs.Standing.{Kinds}
 use Rattle.pas_meaning.specs.Laws.{Extends, bytes_in, world_of}
 use Rattle.pas_run.specs.declared.refusals.Refused.{Refused}
@@ -67,9 +67,12 @@ pub record Does {A T : Type 0} (most : ℕ) (kinds later : Kinds) (Is : T → A 
 abbrev pub Any : {A T : Type 0} → T → A → Type 0
 Any found value = ⊤
 
--- the same number of both
-abbrev pub Same : ℤ → ℤ → Type 0
+-- the same of both; a number as a datum
+abbrev pub Same : {A : Type 0} → A → A → Type 0
 Same found value = found ≡ value
+
+abbrev pub IsNumber : ℤ → Datum → Type 0
+IsNumber found datum = datum ≡ holds found
 
 -- what an answer of the meaning is to the machine
 abbrev pub Answers : {A T : Type 0} → (T → A → Type 0) → Answer A → Result T Stop → Type 0

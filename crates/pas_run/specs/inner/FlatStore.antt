@@ -65,6 +65,10 @@ abbrev pub with_cell : Address → Cell → Activations → Activations
 with_cell address cell activations =
     slice_set activations address.activation (slice_set (cells_of address activations) address.offset cell)
 
+-- the address so many cells behind another
+abbrev pub behind_by : ℕ → Address → Address
+behind_by count address = record address { offset = address.offset + count }
+
 abbrev pub cells_at : Address → ℕ → Activations → List Cell
 cells_at address count activations = take count (drop address.offset (cells_of address activations))
 

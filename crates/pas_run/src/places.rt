@@ -1,0 +1,59 @@
+//! Where variables and their parts are, and what they hold.
+ghost use Rattle.std.specs.Prelude.{◌≡◌, ◌≤◌, ◌-◌, ℕ, List, Option, length};
+ghost use Rattle.wb_ports.specs.PortState.{PortState};
+ghost use Rattle.pas_typed.specs.Types as types;
+ghost use Rattle.pas_typed.specs.Typed as typed;
+ghost use Rattle.pas_typed.specs.TypedViews.{home_view, mode_view, slot_view, program_view};
+ghost use Rattle.pas_typed.specs.Lawful.{IsLawfulSlot};
+ghost use Rattle.pas_meaning.specs.Outcome.{Run};
+ghost use Rattle.pas_meaning.specs.Store as store;
+ghost use Rattle.pas_meaning.specs.Standing.{Kinds};
+ghost use Rattle.pas_run.specs.inner.FlatStore.{address_of, cell_in};
+ghost use Rattle.pas_run.specs.inner.MachineState.{IsRun};
+ghost use Rattle.pas_run.specs.inner.Scenes as spec;
+ghost use Rattle.pas_run.specs.inner.Scenes.{IsScene, own_address};
+
+use crate::cells::{Address, Cell};
+use crate::layouts::Scene;
+use crate::machine::Machine;
+use pas_typed::typed::{Home, Mode, Slot};
+use wb_ports::Port;
+
+impl<P: Port> Machine<P> {
+    // Where the cells of a variable begin.
+    fn own_address(&self, scene: Scene<'_>, slot: Slot) -> Address
+        ensures { result ≡ own_address scene.entry.layouts.now.globals scene.entry.locals.now
+            (length self.now.activations - 1) (home_view slot.home) slot.number }
+    {
+        let activation = match slot.home {
+            Home::Global => 0,
+            Home::Local => self.top(),
+        };
+        Address {
+            activation,
+            offset: scene.layout_of(slot.home).offset_of(slot.number),
+        }
+    }
+
+    // Where a variable is: a variable parameter tells it in its cell.
+    pub(crate) fn home_of(&self, scene: Scene<'_>, slot: Slot) -> Address
+        ensures { (variables : List typed.Variable) (result' : Option types.PasType) (kinds : Kinds)
+            → IsScene scene.entry variables result' kinds
+            → IsLawfulSlot (program_view scene.entry.program.now) variables (slot_view slot)
+            → (ports : List PortState) (run : Run store.Store) → IsRun kinds ports self.now run
+            → result ≡ address_of kinds (store.home_of (slot_view slot) run.store) }
+    {
+        let own = self.own_address(scene, slot);
+        home_in(slot.mode, own, self.cell(own, 0))
+    }
+}
+
+// Where a variable is that has its own cells here, of which the first one holds this.
+fn home_in(mode: Mode, own: Address, cell: Cell) -> Address
+    ensures { result ≡ spec.home_in (mode_view mode) own cell }
+{
+    match (mode, cell) {
+        (Mode::ByName, Cell::Refers(address)) => address,
+        _ => own,
+    }
+}
