@@ -4,3 +4,4 @@ pub mod FlatLemmas
 pub mod DoesLemmas
 pub mod MachineLemmas
 pub mod SceneLemmas
+pub mod PartLemmas

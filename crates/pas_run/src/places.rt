@@ -8,14 +8,17 @@ ghost use Rattle.pas_typed.specs.Lawful.{IsLawfulSlot};
 ghost use Rattle.pas_meaning.specs.Outcome.{Run};
 ghost use Rattle.pas_meaning.specs.Store as store;
 ghost use Rattle.pas_meaning.specs.Standing.{Kinds};
-ghost use Rattle.pas_run.specs.inner.FlatStore.{address_of, cell_in};
+ghost use Rattle.pas_run.specs.inner.FlatStore.{address_of, number_cell};
 ghost use Rattle.pas_run.specs.inner.MachineState.{IsRun};
 ghost use Rattle.pas_run.specs.inner.Scenes as spec;
-ghost use Rattle.pas_run.specs.inner.Scenes.{IsScene, own_address};
+ghost use Rattle.pas_run.specs.inner.Scenes.{IsScene, IsCell, own_address};
+ghost use Rattle.pas_run.specs.inner.Doings.{Answers, Same};
 
 use crate::cells::{Address, Cell};
+use crate::ends::Stop;
 use crate::layouts::Scene;
 use crate::machine::Machine;
+use pas_meaning::UNDEFINED_VALUE;
 use pas_typed::typed::{Home, Mode, Slot};
 use wb_ports::Port;
 
@@ -45,6 +48,30 @@ impl<P: Port> Machine<P> {
     {
         let own = self.own_address(scene, slot);
         home_in(slot.mode, own, self.cell(own, 0))
+    }
+
+    // The number that the cell of a variable holds behind so many of its cells.
+    pub(crate) fn number_at(&self, scene: Scene<'_>, slot: Slot, behind: u32) -> Result<i64, Stop>
+        ensures { (variables : List typed.Variable) (result' : Option types.PasType) (kinds : Kinds)
+            → IsScene scene.entry variables result' kinds
+            → IsLawfulSlot (program_view scene.entry.program.now) variables (slot_view slot)
+            → (path : List ℕ) → IsCell (program_view scene.entry.program.now) (slot_view slot) path behind
+            → (ports : List PortState) (run : Run store.Store) → IsRun kinds ports self.now run
+            → Answers Same (store.number_at (store.along (store.home_of (slot_view slot) run.store) path) run.store)
+            result }
+    {
+        number_in(self.cell(self.home_of(scene, slot), behind))
+    }
+}
+
+// The number that a cell of a variable holds.
+fn number_in(cell: Cell) -> Result<i64, Stop>
+    ensures { (datum : store.Datum) → cell ≡ number_cell (store.number_in datum)
+        → Answers Same (store.number_of datum) result }
+{
+    match cell {
+        Cell::Holds(number) => Ok(number),
+        _ => Err(Stop::Wrong(UNDEFINED_VALUE)),
     }
 }
 

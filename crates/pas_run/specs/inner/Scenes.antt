@@ -5,6 +5,7 @@ use Rattle.pas_typed.specs.Typed as typed
 use Rattle.pas_typed.specs.Typed.{Home, Mode, Variable, Slot, Heading, Body, TypedProgram}
 use Rattle.pas_typed.specs.TypedViews.{program_view}
 use Rattle.pas_typed.specs.Lawful.{IsLawful}
+use Rattle.pas_typed.specs.Shapes.{one_cell, Leads, offset, shape_of}
 use Rattle.pas_meaning.specs.Run.{body_of}
 use Rattle.pas_meaning.specs.Standing.{Kind, kind_of, Kinds, Knows}
 use Rattle.pas_run.specs.declared.cells.Address.{Address}
@@ -76,3 +77,8 @@ own_address globals locals top home number = record {
 abbrev pub home_in : Mode → Address → Cell → Address
 home_in typed.by_name own (Refers address) = address
 home_in mode own cell = own
+
+-- a path leads from a variable to a cell of it behind so many
+pub record IsCell (program : TypedProgram) (slot : Slot) (path : List ℕ) (behind : ℕ) : Type 0 where
+  pub leads : Leads (shape_of program.types slot.type) path one_cell
+  pub begins : behind ≡ offset (shape_of program.types slot.type) path

@@ -1,0 +1,78 @@
+-- Parts of variables over a machine: what is read there and what is stored there.
+use Rattle.std.proofs.Common.{◌≡◌, ℕ, ◌+◌, List, [], Option, Some, None, ℤ, arith, refl, sym, ap, ap₂, ◌∙◌, subst}
+use Rattle.std.proofs.Common.{slice_index_or}
+use Rattle.wb_ports.specs.PortState.{PortState}
+use Rattle.pas_typed.specs.Types.{PasType}
+use Rattle.pas_typed.specs.Typed.{Variable, Slot, TypedProgram}
+use Rattle.pas_typed.specs.Lawful.{IsLawfulSlot}
+use Rattle.pas_typed.specs.Shapes.{Shape, one_cell, shape_of, Leads, offset}
+use Rattle.pas_typed.proofs.ShapeLemmas.{offset_on}
+use Rattle.pas_meaning.specs.Answers.{wrong, fine}
+use Rattle.pas_meaning.specs.Outcome.{Run}
+use Rattle.pas_meaning.specs.Store.{Datum, undefined, holds, Reference, Store, home_of, along, fetched, stored}
+use Rattle.pas_meaning.specs.Store.{number_in, number_of}
+use Rattle.pas_meaning.specs.Cells.{IsShaped}
+use Rattle.pas_meaning.specs.Standing.{Kinds, kind_at, Aims, Stands}
+use Rattle.pas_meaning.proofs.StandingLemmas.{aims_along, stands_stored}
+use Rattle.pas_meaning.proofs.PlaceKeeps.{slot_aims}
+use Rattle.pas_run.specs.declared.layouts.Layout.{Layout}
+use Rattle.pas_run.specs.declared.layouts.Layouts.{Layouts}
+use Rattle.pas_run.specs.inner.FlatStore.{cells_before, root_of, address_of, number_cell, flat_store, cell_in, with_cell}
+use Rattle.pas_run.specs.inner.FlatStore.{behind_by}
+use Rattle.pas_run.specs.inner.MachineState.{MachineState, IsRun}
+use Rattle.pas_run.specs.inner.Scenes.{IsAt}
+use Rattle.pas_run.proofs.FlatLemmas.{cell-fetched, cell-stored}
+
+-- a part begins behind the begin of what it is a part of
+pub address_along : (kinds : Kinds) (reference : Reference) (shape part : Shape) (path : List ℕ)
+    → Aims kinds reference shape → Leads shape path part
+    → address_of kinds (along reference path) ≡ behind_by (offset shape path) (address_of kinds reference)
+address_along kinds reference shape part path aims leads =
+    let root : root_of (kind_at kinds reference.activation reference.variable) ≡ aims.root =
+    ap root_of aims.there in
+    let begin = cells_before (slice_index_or kinds reference.activation []) reference.variable in
+    ap (λ (cells : ℕ). record { activation = reference.activation; offset = begin + cells })
+    (ap (λ root. offset root (along reference path).path) root
+    ∙ offset_on reference.path path aims.root shape aims.leads
+    ∙ ap (λ root. offset root reference.path + offset shape path) (sym root))
+    ∙ ap (λ (cells : ℕ). record { activation = reference.activation; offset = cells }) (omega arith)
+
+module _ (program : TypedProgram) (layouts : Layouts) (locals : Layout) (variables : List Variable)
+    (result : Option PasType) (kinds : Kinds) (at : IsAt program layouts locals variables result kinds)
+    (ports : List PortState) (machine : MachineState) (run : Run Store) (slot : Slot)
+    (stands : IsRun kinds ports machine run) (is : IsLawfulSlot program variables slot) (path : List ℕ) where
+  abbrev shape : Shape
+  shape = shape_of program.types slot.type
+
+  its_aims : Aims kinds (home_of slot run.store) shape
+  its_aims = slot_aims program at.lawful variables result kinds at.knows slot run.store stands.stands is
+
+  -- a number
+  pub part_number : Leads shape path one_cell
+      → cell_in (behind_by (offset shape path) (address_of kinds (home_of slot run.store))) machine.activations
+      ≡ number_cell (number_in (fetched (along (home_of slot run.store) path) run.store))
+  part_number leads =
+      ap₂ cell_in (sym (address_along kinds (home_of slot run.store) shape one_cell path its_aims leads))
+      stands.activations
+      ∙ cell-fetched kinds run.store (along (home_of slot run.store) path) stands.stands
+      (aims_along kinds (home_of slot run.store) shape one_cell path its_aims leads)
+
+  -- and one that is stored, or becomes undefined
+  pub part_stored : (new : Datum) → Leads shape path one_cell → IsShaped one_cell new
+      → IsRun kinds ports (record machine {
+        activations = with_cell (behind_by (offset shape path) (address_of kinds (home_of slot run.store)))
+            (number_cell (number_in new)) machine.activations;
+      }) (record run { store = stored (along (home_of slot run.store) path) new run.store })
+  part_stored new leads one = record {
+    activations = ap₂ (λ address rows. with_cell address (number_cell (number_in new)) rows)
+        (sym (address_along kinds (home_of slot run.store) shape one_cell path its_aims leads)) stands.activations
+        ∙ sym (cell-stored kinds run.store (along (home_of slot run.store) path) stands.stands
+        (aims_along kinds (home_of slot run.store) shape one_cell path its_aims leads) new one);
+    stands = stands_stored kinds run.store (along (home_of slot run.store) path) one_cell new stands.stands
+        (aims_along kinds (home_of slot run.store) shape one_cell path its_aims leads) one;
+    world = record {
+      steps = stands.world.steps;
+      calls = stands.world.calls;
+      files = stands.world.files;
+    };
+  }
