@@ -1,6 +1,6 @@
 -- Parts of variables over a machine: what is read there and what is stored there.
 use Rattle.std.proofs.Common.{◌≡◌, ℕ, ◌+◌, List, [], Option, Some, None, ℤ, arith, refl, sym, ap, ap₂, ◌∙◌, subst}
-use Rattle.std.proofs.Common.{slice_index_or}
+use Rattle.std.proofs.Common.{slice_index_or, Ok}
 use Rattle.wb_ports.specs.PortState.{PortState}
 use Rattle.pas_typed.specs.Types.{PasType}
 use Rattle.pas_typed.specs.Typed.{Variable, Slot, TypedProgram}
@@ -8,19 +8,21 @@ use Rattle.pas_typed.specs.Lawful.{IsLawfulSlot}
 use Rattle.pas_typed.specs.Shapes.{Shape, one_cell, shape_of, Leads, offset}
 use Rattle.pas_typed.proofs.ShapeLemmas.{offset_on}
 use Rattle.pas_meaning.specs.Answers.{wrong, fine}
-use Rattle.pas_meaning.specs.Outcome.{Run}
+use Rattle.pas_meaning.specs.Outcome.{Run, change}
 use Rattle.pas_meaning.specs.Store.{Datum, undefined, holds, Reference, Store, home_of, along, fetched, stored}
 use Rattle.pas_meaning.specs.Store.{number_in, number_of}
 use Rattle.pas_meaning.specs.Cells.{IsShaped}
 use Rattle.pas_meaning.specs.Standing.{Kinds, kind_at, Aims, Stands}
 use Rattle.pas_meaning.proofs.StandingLemmas.{aims_along, stands_stored}
 use Rattle.pas_meaning.proofs.PlaceKeeps.{slot_aims}
+use Rattle.pas_run.specs.declared.cells.Address.{Address}
 use Rattle.pas_run.specs.declared.layouts.Layout.{Layout}
 use Rattle.pas_run.specs.declared.layouts.Layouts.{Layouts}
 use Rattle.pas_run.specs.inner.FlatStore.{cells_before, root_of, address_of, number_cell, flat_store, cell_in, with_cell}
 use Rattle.pas_run.specs.inner.FlatStore.{behind_by}
 use Rattle.pas_run.specs.inner.MachineState.{MachineState, IsRun}
-use Rattle.pas_run.specs.inner.Scenes.{IsAt}
+use Rattle.pas_run.specs.inner.Scenes.{IsAt, IsCell}
+use Rattle.pas_run.specs.inner.Doings.{Any, Does, stored_at}
 use Rattle.pas_run.proofs.FlatLemmas.{cell-fetched, cell-stored}
 
 -- a part begins behind the begin of what it is a part of
@@ -76,3 +78,32 @@ module _ (program : TypedProgram) (layouts : Layouts) (locals : Layout) (variabl
       files = stands.world.files;
     };
   }
+
+-- storing a number as something that is done
+pub does_store : (program : TypedProgram) (layouts : Layouts) (locals : Layout) (variables : List Variable)
+    (result : Option PasType) (kinds : Kinds) → IsAt program layouts locals variables result kinds
+    → (machine now : MachineState) (slot : Slot) → IsLawfulSlot program variables slot → (path : List ℕ) (behind : ℕ)
+    → IsCell program slot path behind → (most : ℕ) (datum : Datum) → IsShaped one_cell datum → (home : Address)
+    → ((ports : List PortState) (run : Run Store) → IsRun kinds ports machine run
+    → home ≡ address_of kinds (home_of slot run.store))
+    → now ≡ record machine {
+      activations = with_cell (behind_by behind home) (number_cell (number_in datum)) machine.activations;
+    }
+    → Does most kinds kinds Any (change (stored_at slot path datum)) machine now (Ok (tt {0}))
+does_store program layouts locals variables result kinds at machine now slot is path behind leads most datum one home
+    found same = record {
+      each = λ ports run stands within. record {
+        value = tt {0};
+        run = record run { store = stored_at slot path datum run.store };
+        same = refl;
+        is = tt;
+        stands = subst (λ machine. IsRun kinds ports machine (record run {
+              store = stored_at slot path datum run.store;
+            }))
+            (sym (same ∙ ap₂ (λ behind home. record machine {
+              activations = with_cell (behind_by behind home) (number_cell (number_in datum)) machine.activations;
+            }) leads.begins (found ports run stands)))
+            (part_stored program layouts locals variables result kinds at ports machine run slot stands is path datum
+            leads.leads one);
+      };
+    }

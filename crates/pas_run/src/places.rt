@@ -1,18 +1,20 @@
 //! Where variables and their parts are, and what they hold.
-ghost use Rattle.std.specs.Prelude.{◌≡◌, ◌≤◌, ◌-◌, ℕ, List, Option, length};
+ghost use Rattle.std.specs.Prelude.{◌≡◌, ◌≤◌, ◌-◌, ℕ, List, Option, length, Ok};
 ghost use Rattle.wb_ports.specs.PortState.{PortState};
 ghost use Rattle.pas_typed.specs.Types as types;
 ghost use Rattle.pas_typed.specs.Typed as typed;
 ghost use Rattle.pas_typed.specs.TypedViews.{home_view, mode_view, slot_view, program_view};
 ghost use Rattle.pas_typed.specs.Lawful.{IsLawfulSlot};
-ghost use Rattle.pas_meaning.specs.Outcome.{Run};
+ghost use Rattle.pas_typed.specs.Shapes.{one_cell};
+ghost use Rattle.pas_meaning.specs.Outcome.{Run, change};
 ghost use Rattle.pas_meaning.specs.Store as store;
+ghost use Rattle.pas_meaning.specs.Cells.{IsShaped};
 ghost use Rattle.pas_meaning.specs.Standing.{Kinds};
 ghost use Rattle.pas_run.specs.inner.FlatStore.{address_of, number_cell};
 ghost use Rattle.pas_run.specs.inner.MachineState.{IsRun};
 ghost use Rattle.pas_run.specs.inner.Scenes as spec;
 ghost use Rattle.pas_run.specs.inner.Scenes.{IsScene, IsCell, own_address};
-ghost use Rattle.pas_run.specs.inner.Doings.{Answers, Same};
+ghost use Rattle.pas_run.specs.inner.Doings.{Any, Does, Answers, Same, stored_at};
 
 use crate::cells::{Address, Cell};
 use crate::ends::Stop;
@@ -61,6 +63,30 @@ impl<P: Port> Machine<P> {
             result }
     {
         number_in(self.cell(self.home_of(scene, slot), behind))
+    }
+
+    // The cell of a variable behind so many of its cells gets a number, or nothing that is defined.
+    pub(crate) fn set_number(&mut self, scene: Scene<'_>, slot: Slot, behind: u32, number: Option<i64>)
+        ensures does { (variables : List typed.Variable) (result' : Option types.PasType) (kinds : Kinds)
+            → IsScene scene.entry variables result' kinds
+            → IsLawfulSlot (program_view scene.entry.program.now) variables (slot_view slot)
+            → (path : List ℕ) → IsCell (program_view scene.entry.program.now) (slot_view slot) path behind
+            → (most : ℕ) (datum : store.Datum) → IsShaped one_cell datum → store.number_in datum ≡ number
+            → Does most kinds kinds Any (change (stored_at (slot_view slot) path datum)) self.old self.new (Ok (tt {0})) }
+        ensures files { self.new.files ≡ self.old.files }
+    {
+        let home = self.home_of(scene, slot);
+        self.set_cell(home, behind, cell_of(number));
+    }
+}
+
+// The cell of a variable that is a number, or undefined.
+fn cell_of(number: Option<i64>) -> Cell
+    ensures { result ≡ number_cell number }
+{
+    match number {
+        Some(number) => Cell::Holds(number),
+        None => Cell::Undefined,
     }
 }
 

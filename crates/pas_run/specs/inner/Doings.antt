@@ -1,10 +1,11 @@
 -- What functions of a machine do: the steps of a run that it stands for. This project's own.
 use Rattle.std.specs.Prelude.{◌≡◌, ◌≤◌, ℕ, ℤ, List, Bool, true, false, Result, Ok, Err, ⊤}
 use Rattle.wb_ports.specs.PortState.{PortState}
+use Rattle.pas_typed.specs.Typed.{Slot}
 use Rattle.pas_meaning.specs.Answers.{Answer, fine, wrong}
 use Rattle.pas_meaning.specs.Outcome.{Output, World, Run, Outcome, gives, ends, errs, Doing, halted, going, too_deep}
 use Rattle.pas_meaning.specs.Outcome.{replay}
-use Rattle.pas_meaning.specs.Store.{Datum, holds, Store}
+use Rattle.pas_meaning.specs.Store.{Datum, holds, Store, home_of, along, stored}
 use Rattle.pas_meaning.specs.Standing.{Kinds}
 use Rattle.pas_meaning.specs.Laws.{Extends, bytes_in, world_of}
 use Rattle.pas_run.specs.declared.refusals.Refused.{Refused}
@@ -79,3 +80,7 @@ abbrev pub Answers : {A T : Type 0} → (T → A → Type 0) → Answer A → Re
 Answers {A} Is answer (Ok found) = (value : A) × (answer ≡ fine value) × Is found value
 Answers Is answer (Err (stop.Wrong kind)) = answer ≡ wrong kind
 Answers Is answer (Err why) = ⊥
+
+-- the variables after a datum is stored in the part of one at a path
+abbrev pub stored_at : Slot → List ℕ → Datum → Store → Store
+stored_at slot path datum store = stored (along (home_of slot store) path) datum store
