@@ -23,7 +23,7 @@ onward_end (gives value run) next goes = ((goes value).each run).trail
 onward_end (ends end world) next goes = Extends.as_it_was
 onward_end (errs kind world) next goes = Extends.as_it_was
 
-moment_on : (files : List KeptFile) (before later last : World) → Extends later.trail last.trail
+pub moment_on : (files : List KeptFile) (before later last : World) → Extends later.trail last.trail
     → IsMoment files before later → IsMoment files before last
 moment_on files before later last more moment = record {
   trail = moment.trail;

@@ -5,3 +5,4 @@ pub mod DoesLemmas
 pub mod MachineLemmas
 pub mod SceneLemmas
 pub mod PartLemmas
+pub mod FileLemmas

@@ -1,0 +1,373 @@
+-- Steps of the files of a machine as steps of a run.
+use Rattle.std.proofs.Common.{◌≡◌, ℕ, zero, suc, ◌+◌, ◌<◌, ◌≤◌, List, [], ◌∷◌, ◌++◌, length, map, take, drop}
+use Rattle.std.proofs.Common.{slice_index_or, slice_set, arith, refl, sym, ap, ap₂, ◌∙◌, subst, Result, Ok, Err, Option}
+use Rattle.std.proofs.Common.{append_assoc, append-nil, take-append-drop, ◌⊎◌, inl, inr}
+use Rattle.std.proofs.lemmas.List.{map-set, get_or-map, set-set, set-get_or, get_or-set_same, length-set, length-map}
+use Rattle.std.proofs.lemmas.List.Sums.{fold-append}
+use Rattle.wb_ports.specs.PortState.{PortState}
+use Rattle.pas_meaning.specs.Answers.{Answer, fine, wrong}
+use Rattle.pas_meaning.specs.Files as files
+use Rattle.pas_meaning.specs.Files.{File}
+use Rattle.pas_meaning.specs.Outcome.{Output, World, Run, Outcome, gives, errs, Doing, Worldly, passes, fails, led, ask}
+use Rattle.pas_meaning.specs.Outcome.{answered, replay, emptied}
+use Rattle.pas_meaning.specs.FileSteps.{no_file, file_at, with_file, left, change_file, append, appended, with_byte}
+use Rattle.pas_meaning.specs.FileSteps.{with_bytes, rewrite, emptied_file, put, put_byte, without_buffer}
+use Rattle.pas_meaning.specs.Store.{Store}
+use Rattle.pas_meaning.specs.Standing.{Kinds}
+use Rattle.pas_meaning.specs.Laws.{Extends, Extends.as_it_was, Onward, bytes_in, world_of}
+use Rattle.pas_run.specs.declared.files.FileState.{FileState}
+use Rattle.pas_run.specs.declared.refusals.Refused.{Refused}
+use Rattle.pas_run.specs.declared.refusals.Refused.TheVariants.{Wrong, Failed}
+use Rattle.pas_run.specs.declared.ends.Stop.{Stop}
+use Rattle.pas_run.specs.RunFiles.{IsFile, Shows, Asks, Makes, with_more, Appends, Rewrites}
+use Rattle.pas_meaning.proofs.OnwardLemmas.{goes_append, goes_rewrite}
+use Rattle.pas_run.specs.inner.MachineState.{KeptFile, MachineState, AreFiles, AreShown, IsWorld, IsRun}
+use Rattle.pas_run.specs.inner.Doings.{stop_by, Any, IsMoment, Done, Does}
+use Rattle.pas_run.proofs.DoesLemmas.{moment_on}
+
+-- a file among those of a world, and what it takes that the others stay
+pub record FileAt (ports : List PortState) (kept : List KeptFile) (found : List File) (number : ℕ)
+    (own : KeptFile) : Type 0 where
+  pub bound : PortState
+  pub is : IsFile bound own.state own.told (slice_index_or found number no_file)
+  pub there : number < length found
+  pub others : (now : KeptFile) (file : File) → IsFile bound now.state now.told file
+      → AreFiles ports (slice_set kept number now) (slice_set found number file)
+  pub shown : (now : KeptFile) (bytes : List ℕ) → Shows bytes now.told
+      → AreShown (slice_set kept number now) (slice_set (map (λ (file : File). file.bytes) found) number bytes)
+
+shows_own : (bound : PortState) (state : FileState) (told : Option PortState) (file : File)
+    → IsFile bound state told file → Shows file.bytes told
+shows_own bound state Option.None file is = is
+shows_own bound state (Option.Some port) file is = sym is.bytes
+
+all_shown : (ports : List PortState) (kept : List KeptFile) (found : List File) → AreFiles ports kept found
+    → AreShown kept (map (λ (file : File). file.bytes) found)
+all_shown [] [] [] are = tt
+all_shown [] [] (file ∷ found) are = absurd are
+all_shown [] (own ∷ kept) found are = absurd are
+all_shown (bound ∷ ports) [] found are = absurd are
+all_shown (bound ∷ ports) (own ∷ kept) [] are = absurd are
+all_shown (bound ∷ ports) (own ∷ kept) (file ∷ found) are =
+    (shows_own bound own.state own.told file are.0, all_shown ports kept found are.1)
+
+pub file_there : (ports : List PortState) (kept : List KeptFile) (found : List File) (number : ℕ) (default : KeptFile)
+    → AreFiles ports kept found → number < length kept
+    → FileAt ports kept found number (slice_index_or kept number default)
+file_there [] [] found number default are less = absurd (omega (arith, less))
+file_there [] (own ∷ kept) found number default are less = absurd are
+file_there (bound ∷ ports) [] found number default are less = absurd (omega (arith, less))
+file_there (bound ∷ ports) (own ∷ kept) [] number default are less = absurd are
+file_there (bound ∷ ports) (own ∷ kept) (file ∷ found) zero default are less = record {
+  bound = bound;
+  is = are.0;
+  there = omega arith;
+  others = λ now file is. (is, are.1);
+  shown = λ now bytes shows. (shows, all_shown ports kept found are.1);
+}
+file_there (bound ∷ ports) (own ∷ kept) (file ∷ found) (suc number) default are less =
+    let on = file_there ports kept found number default are.1 (omega (arith, less)) in
+    record {
+      bound = on.bound;
+      is = on.is;
+      there = omega (arith, on.there);
+      others = λ now other is. (are.0, on.others now other is);
+      shown = λ now bytes shows. (shows_own bound own.state own.told file are.0, on.shown now bytes shows);
+    }
+
+-- how a step of a file ends for the machine
+abbrev pub stopped : {T : Type 0} → Result T Refused → Result T Stop
+stopped (Ok value) = Ok value
+stopped (Err refused) = Err (stop_by refused)
+
+-- a machine with one file changed
+abbrev pub with_kept : ℕ → KeptFile → MachineState → MachineState
+with_kept number now machine = record machine { files = slice_set machine.files number now }
+
+same_files : {A : Type 0} (xs : List A) (number : ℕ) (default : A)
+    → slice_set xs number (slice_index_or xs number default) ≡ xs
+same_files xs number default = set-get_or xs number default
+
+-- a run whose world has the same steps and calls stands for the machine with one file changed
+changed_run : (kinds : Kinds) (ports : List PortState) (machine : MachineState) (run : Run Store) (number : ℕ)
+    (now : KeptFile) (world : World) → IsRun kinds ports machine run → world.steps ≡ run.world.steps
+    → world.calls ≡ run.world.calls → AreFiles ports (slice_set machine.files number now) world.files
+    → IsRun kinds ports (with_kept number now machine) (record run { world = world })
+changed_run kinds ports machine run number now world stands steps calls are = record {
+  activations = stands.activations;
+  stands = stands.stands;
+  world = record {
+    steps = stands.world.steps ∙ sym steps;
+    calls = stands.world.calls ∙ sym calls;
+    files = are;
+  };
+}
+
+-- a moment at which nothing was put out
+still : (ports : List PortState) (machine : MachineState) (world : World) (number : ℕ) (own now : KeptFile)
+    → FileAt ports machine.files world.files number own → Shows (file_at number world).bytes now.told
+    → IsMoment (slice_set machine.files number now) world world
+still ports machine world number own now at shows = record {
+  trail = world.trail;
+  from = as_it_was;
+  until = as_it_was;
+  shown = λ given was. subst (AreShown (slice_set machine.files number now))
+      (ap (slice_set (bytes_in world) number) (sym (get_or-map (λ (file : File). file.bytes) world.files number no_file []
+      at.there))
+      ∙ same_files (bytes_in world) number []
+      ∙ sym was)
+      (at.shown now (file_at number world).bytes shows);
+}
+
+module _ (most : ℕ) (kinds : Kinds) (before : MachineState) (number : ℕ) (default now : KeptFile)
+    (less : number < length before.files) where
+  abbrev own_file : KeptFile
+  own_file = slice_index_or before.files number default
+
+  there_in : (ports : List PortState) (run : Run Store) → IsRun kinds ports before run
+      → FileAt ports before.files run.world.files number own_file
+  there_in ports run stands = file_there ports before.files run.world.files number default stands.world.files less
+
+  -- the file as it was
+  as_before : (ports : List PortState) (run : Run Store) (stands : IsRun kinds ports before run)
+      → IsFile (there_in ports run stands).bound now.state now.told (file_at number run.world)
+      → IsRun kinds ports (with_kept number now before) run
+  as_before ports run stands is =
+      changed_run kinds ports before run number now run.world stands refl refl
+      (subst (AreFiles ports (slice_set before.files number now)) (same_files run.world.files number no_file)
+      ((there_in ports run stands).others now (file_at number run.world) is))
+
+  -- a question
+  pub does_asked : {A T : Type 0} (question : File → Answer A) (seen : T → A) (result : Result T Refused)
+      → Asks question seen own_file.state own_file.told now.state now.told result
+      → Does most kinds kinds (λ found value. seen found ≡ value)
+      (ask (λ (store : Store) world. question (file_at number world)))
+      before (with_kept number now before) (stopped result)
+  does_asked question seen (Ok value) asks = record {
+    each = λ ports run stands within.
+        let is = asks.each (there_in ports run stands).bound (file_at number run.world) (there_in ports run stands).is in
+        record {
+          value = seen value;
+          run = run;
+          same = ap (λ answer. answered answer run) is.0;
+          is = refl;
+          stands = as_before ports run stands is.1;
+        };
+  }
+  does_asked question seen (Err (Wrong kind)) asks = record {
+    each = λ ports run stands within.
+        let is = asks.each (there_in ports run stands).bound (file_at number run.world) (there_in ports run stands).is in
+        (run.world, record {
+          same = ap (λ answer. answered answer run) is.0;
+          stands = (as_before ports run stands is.1).world;
+        });
+  }
+  does_asked question seen (Err Failed) asks = record {
+    each = λ ports run stands within.
+        let is = asks.each (there_in ports run stands).bound (file_at number run.world) (there_in ports run stands).is in
+        subst (IsMoment (slice_set before.files number now) run.world) (asked_world (question (file_at number run.world))
+        run) (still ports before run.world number own_file now (there_in ports run stands) is);
+  }
+    where
+      asked_world : {A : Type 0} (answer : Answer A) (run : Run Store) → run.world ≡ world_of (answered answer run)
+      asked_world (fine value) run = refl
+      asked_world (wrong kind) run = refl
+
+  -- a step that leaves the bytes
+  left_world : (world : World) (store : Store) (answer : Answer File)
+      → Extends world.trail (world_of (led store world (left number world answer))).trail
+  left_world world store (fine file) = as_it_was
+  left_world world store (wrong kind) = as_it_was
+
+  pub does_made : (step : File → Answer File) (result : Result (Unit {0}) Refused)
+      → Makes step own_file.state own_file.told now.state now.told result
+      → Does most kinds kinds Any (change_file {S = Store} number step) before (with_kept number now before)
+      (stopped result)
+  does_made step (Ok value) makes = record {
+    each = λ ports run stands within.
+        let is = makes.each (there_in ports run stands).bound (file_at number run.world)
+        (there_in ports run stands).is in
+        record {
+          value = tt {0};
+          run = record run { world = with_file number is.0 run.world };
+          same = ap (λ answer. led run.store run.world (left number run.world answer)) is.1;
+          is = tt;
+          stands = changed_run kinds ports before run number now (with_file number is.0 run.world) stands refl refl
+              ((there_in ports run stands).others now is.0 is.2);
+        };
+  }
+  does_made step (Err (Wrong kind)) makes = record {
+    each = λ ports run stands within.
+        let is = makes.each (there_in ports run stands).bound (file_at number run.world)
+        (there_in ports run stands).is in
+        (run.world, record {
+          same = ap (λ answer. led run.store run.world (left number run.world answer)) is.0;
+          stands = (as_before ports run stands is.1).world;
+        });
+  }
+  does_made step (Err Failed) makes = record {
+    each = λ ports run stands within.
+        let is = makes.each (there_in ports run stands).bound (file_at number run.world)
+        (there_in ports run stands).is in
+        moment_on (slice_set before.files number now) run.world run.world _
+        (left_world run.world run.store (step (file_at number run.world)))
+        (still ports before run.world number own_file now (there_in ports run stands) is);
+  }
+
+emptied_on : (number : ℕ) (world : World) → Onward world (emptied_file number world)
+emptied_on number world = (goes_rewrite {S = Store} number).each (record { store = []; world = world })
+
+-- bytes that are put out: the file has them, and each first part of them is there on the way
+module _ (number : ℕ) where
+  with_bytes_file : (bytes : List ℕ) (world : World) → number < length world.files
+      → (with_bytes number bytes world).files ≡ slice_set world.files number (with_more bytes (file_at number world))
+  with_bytes_file [] world less =
+      sym (ap (λ own. slice_set world.files number (record (file_at number world) { bytes = own }))
+      (append-nil (file_at number world).bytes) ∙ same_files world.files number no_file)
+  with_bytes_file (byte ∷ bytes) world less =
+      let next = with_byte number world byte in
+      let own = file_at number world in
+      let set : file_at number next ≡ with_more (byte ∷ []) own =
+      get_or-set_same world.files number (with_more (byte ∷ []) own) no_file less in
+      with_bytes_file bytes next (omega (
+        arith,
+        less,
+        length-set world.files number (record own { bytes = own.bytes ++ byte ∷ [] }),
+      ))
+      ∙ ap (λ (file : File). slice_set next.files number (with_more bytes file)) set
+      ∙ set-set world.files number (with_more (byte ∷ []) own) (with_more bytes (with_more (byte ∷ []) own))
+      ∙ ap (λ all. slice_set world.files number (record own { bytes = all }))
+      (append_assoc own.bytes (byte ∷ []) bytes)
+
+  with_bytes_steps : (bytes : List ℕ) (world : World) → (with_bytes number bytes world).steps ≡ world.steps
+  with_bytes_steps [] world = refl
+  with_bytes_steps (byte ∷ bytes) world = with_bytes_steps bytes (with_byte number world byte)
+
+  with_bytes_calls : (bytes : List ℕ) (world : World) → (with_bytes number bytes world).calls ≡ world.calls
+  with_bytes_calls [] world = refl
+  with_bytes_calls (byte ∷ bytes) world = with_bytes_calls bytes (with_byte number world byte)
+
+  with_bytes_on : (bytes : List ℕ) (world : World) → Onward world (with_bytes number bytes world)
+  with_bytes_on bytes world =
+      (goes_append {S = Store} number (λ file. fine bytes)).each (record { store = []; world = world })
+
+  with_bytes_part : (count : ℕ) (bytes : List ℕ) (world : World)
+      → with_bytes number bytes world
+      ≡ with_bytes number (drop count bytes) (with_bytes number (take count bytes) world)
+  with_bytes_part count bytes world =
+      ap (λ all. with_bytes number all world) (sym (take-append-drop count bytes))
+      ∙ fold-append (with_byte number) world (take count bytes) (drop count bytes)
+
+  -- the moment at which a first part of the bytes is there
+  part_put : (ports : List PortState) (machine : MachineState) (world : World) (own now : KeptFile) (count : ℕ)
+      (bytes : List ℕ) → FileAt ports machine.files world.files number own
+      → Shows ((file_at number world).bytes ++ take count bytes) now.told
+      → IsMoment (slice_set machine.files number now) world (with_bytes number bytes world)
+  part_put ports machine world own now count bytes at shows =
+      let part = with_bytes number (take count bytes) world in
+      record {
+        trail = part.trail;
+        from = (with_bytes_on (take count bytes) world).trail;
+        until = subst (λ (last : World). Extends part.trail last.trail) (sym (with_bytes_part count bytes world))
+            (with_bytes_on (drop count bytes) part).trail;
+        shown = λ given was. subst (AreShown (slice_set machine.files number now))
+            (sym ((with_bytes_on (take count bytes) world).files given was
+            ∙ ap (map (λ (file : File). file.bytes)) (with_bytes_file (take count bytes) world at.there)
+            ∙ map-set (λ (file : File). file.bytes) world.files number
+            (with_more (take count bytes) (file_at number world))))
+            (at.shown now ((file_at number world).bytes ++ take count bytes) shows);
+      }
+
+module _ (most : ℕ) (kinds : Kinds) (before : MachineState) (number : ℕ) (default now : KeptFile)
+    (less : number < length before.files) where
+  abbrev its_file : KeptFile
+  its_file = slice_index_or before.files number default
+
+  abbrev its_place : (ports : List PortState) (run : Run Store) → IsRun kinds ports before run
+      → FileAt ports before.files run.world.files number its_file
+  its_place = there_in most kinds before number default now less
+
+  -- bytes are appended
+  appended_world : (run : Run Store) (more : List ℕ) (answer : Answer (List ℕ)) → answer ≡ fine more
+      → world_of (led run.store run.world (appended number run.world answer)) ≡ with_bytes number more run.world
+  appended_world run more answer is =
+      ap (λ answer. world_of (led run.store run.world (appended number run.world answer))) is
+
+  pub does_appended : (bytes : File → Answer (List ℕ)) (result : Result (Unit {0}) Refused)
+      → Appends bytes its_file.state its_file.told now.state now.told result
+      → Does most kinds kinds Any (append {S = Store} number bytes) before (with_kept number now before)
+      (stopped result)
+  does_appended bytes (Ok value) appends = record {
+    each = λ ports run stands within.
+        let at = its_place ports run stands in
+        let is = appends.each at.bound (file_at number run.world) at.is in
+        record {
+          value = tt {0};
+          run = record run { world = with_bytes number is.0 run.world };
+          same = ap (λ answer. led run.store run.world (appended number run.world answer)) is.1;
+          is = tt;
+          stands = changed_run kinds ports before run number now (with_bytes number is.0 run.world) stands
+              (with_bytes_steps number is.0 run.world) (with_bytes_calls number is.0 run.world)
+              (subst (AreFiles ports (slice_set before.files number now))
+              (sym (with_bytes_file number is.0 run.world at.there))
+              (at.others now (with_more is.0 (file_at number run.world)) is.2));
+        };
+  }
+  does_appended bytes (Err (Wrong kind)) appends = record {
+    each = λ ports run stands within.
+        let at = its_place ports run stands in
+        let is = appends.each at.bound (file_at number run.world) at.is in
+        (run.world, record {
+          same = ap (λ answer. led run.store run.world (appended number run.world answer)) is.0;
+          stands = (as_before most kinds before number default now less ports run stands is.1).world;
+        });
+  }
+  does_appended bytes (Err Failed) appends = record {
+    each = λ ports run stands within.
+        let at = its_place ports run stands in
+        let is = appends.each at.bound (file_at number run.world) at.is in
+        subst (IsMoment (slice_set before.files number now) run.world)
+        (sym (appended_world run is.0 (bytes (file_at number run.world)) is.2))
+        (part_put number ports before run.world its_file now is.1 is.0 at is.3);
+  }
+
+  -- a rewrite
+  pub does_rewritten : (result : Result (Unit {0}) Refused)
+      → Rewrites its_file.state its_file.told now.state now.told result
+      → Does most kinds kinds Any (rewrite {S = Store} number) before (with_kept number now before) (stopped result)
+  does_rewritten (Ok value) rewrites = record {
+    each = λ ports run stands within.
+        let at = its_place ports run stands in
+        record {
+          value = tt {0};
+          run = record run { world = emptied_file number run.world };
+          same = refl;
+          is = tt;
+          stands = changed_run kinds ports before run number now (emptied_file number run.world) stands refl refl
+              (at.others now (files.rewrite (file_at number run.world))
+              (rewrites.each at.bound (file_at number run.world) at.is));
+        };
+  }
+  does_rewritten (Err (Wrong kind)) rewrites = record {
+    each = λ ports run stands within.
+        let at = its_place ports run stands in absurd (rewrites.each at.bound (file_at number run.world) at.is);
+  }
+  does_rewritten (Err Failed) rewrites = record {
+    each = λ ports run stands within.
+        let at = its_place ports run stands in
+        emptied_or ports run at (rewrites.each at.bound (file_at number run.world) at.is);
+  }
+    where
+      emptied_or : (ports : List PortState) (run : Run Store) → FileAt ports before.files run.world.files number its_file
+          → Shows (file_at number run.world).bytes now.told ⊎ Shows [] now.told
+          → IsMoment (slice_set before.files number now) run.world (emptied_file number run.world)
+      emptied_or ports run at (inl shows) =
+          moment_on (slice_set before.files number now) run.world run.world (emptied_file number run.world)
+          (emptied_on number run.world).trail (still ports before run.world number its_file now at shows)
+      emptied_or ports run at (inr shows) = record {
+        trail = (emptied_file number run.world).trail;
+        from = (emptied_on number run.world).trail;
+        until = as_it_was;
+        shown = λ given was. subst (AreShown (slice_set before.files number now))
+            (ap (λ bytes. slice_set bytes number []) (sym was)) (at.shown now [] shows);
+      }
