@@ -1,10 +1,11 @@
 -- Steps of the files of a machine as steps of a run.
 use Rattle.std.proofs.Common.{◌≡◌, ℕ, zero, suc, ◌+◌, ◌<◌, ◌≤◌, List, [], ◌∷◌, ◌++◌, length, map, take, drop}
 use Rattle.std.proofs.Common.{slice_index_or, slice_set, arith, refl, sym, ap, ap₂, ◌∙◌, subst, Result, Ok, Err, Option}
-use Rattle.std.proofs.Common.{append_assoc, append-nil, take-append-drop, ◌⊎◌, inl, inr}
+use Rattle.std.proofs.Common.{Bool, true, false, subst₂, append_assoc, append-nil, take-append-drop, ◌⊎◌, inl, inr}
 use Rattle.std.proofs.lemmas.List.{map-set, get_or-map, set-set, set-get_or, get_or-set_same, length-set, length-map}
 use Rattle.std.proofs.lemmas.List.Sums.{fold-append}
 use Rattle.wb_ports.specs.PortState.{PortState}
+use Rattle.wb_ports.specs.Counts.{Rose, CountsFailure}
 use Rattle.pas_meaning.specs.Answers.{Answer, fine, wrong}
 use Rattle.pas_meaning.specs.Files as files
 use Rattle.pas_meaning.specs.Files.{File}
@@ -20,9 +21,12 @@ use Rattle.pas_run.specs.declared.refusals.Refused.{Refused}
 use Rattle.pas_run.specs.declared.refusals.Refused.TheVariants.{Wrong, Failed}
 use Rattle.pas_run.specs.declared.ends.Stop.{Stop}
 use Rattle.pas_run.specs.RunFiles.{IsFile, Shows, Asks, Makes, with_more, Appends, Rewrites}
+use Rattle.pas_run.specs.RunFiles.{put_of, Puts}
 use Rattle.pas_meaning.proofs.OnwardLemmas.{goes_append, goes_rewrite}
+use Rattle.pas_run.specs.RunFiles as files_spec
 use Rattle.pas_run.specs.inner.MachineState.{KeptFile, MachineState, AreFiles, AreShown, IsWorld, IsRun}
-use Rattle.pas_run.specs.inner.Doings.{stop_by, Any, IsMoment, Done, Does}
+use Rattle.pas_run.specs.inner.MachineState.{failures_of, CountFailures}
+use Rattle.pas_run.specs.inner.Doings.{stopped, is_port_failed, Any, IsMoment, Done, Does, asks}
 use Rattle.pas_run.proofs.DoesLemmas.{moment_on}
 
 -- a file among those of a world, and what it takes that the others stay
@@ -74,11 +78,6 @@ file_there (bound ∷ ports) (own ∷ kept) (file ∷ found) (suc number) defaul
       others = λ now other is. (are.0, on.others now other is);
       shown = λ now bytes shows. (shows_own bound own.state own.told file are.0, on.shown now bytes shows);
     }
-
--- how a step of a file ends for the machine
-abbrev pub stopped : {T : Type 0} → Result T Refused → Result T Stop
-stopped (Ok value) = Ok value
-stopped (Err refused) = Err (stop_by refused)
 
 -- a machine with one file changed
 abbrev pub with_kept : ℕ → KeptFile → MachineState → MachineState
@@ -371,3 +370,189 @@ module _ (most : ℕ) (kinds : Kinds) (before : MachineState) (number : ℕ) (de
         shown = λ given was. subst (AreShown (slice_set before.files number now))
             (ap (λ bytes. slice_set bytes number []) (sym was)) (at.shown now [] shows);
       }
+
+  -- put
+  put_file : (world : World) (byte : ℕ) → number < length world.files
+      → (without_buffer number (with_byte number world byte)).files
+      ≡ slice_set world.files number (put_of byte (file_at number world))
+  put_file world byte there =
+      let own = file_at number world in
+      let next = with_byte number world byte in
+      let set : file_at number next ≡ with_more (byte ∷ []) own =
+      get_or-set_same world.files number (with_more (byte ∷ []) own) no_file there in
+      ap (λ (file : File). slice_set next.files number (record file { buffer = Option.None })) set
+      ∙ set-set world.files number (with_more (byte ∷ []) own) (put_of byte own)
+
+  put_on : (world : World) (byte : ℕ) → Onward world (with_byte number world byte)
+  put_on world byte = with_bytes_on number (byte ∷ []) world
+
+  pub does_put : (result : Result (Unit {0}) Refused) → Puts its_file.state its_file.told now.state now.told result
+      → Does most kinds kinds Any (put {S = Store} number) before (with_kept number now before) (stopped result)
+  does_put (Ok value) puts = record {
+    each = λ ports run stands within.
+        let at = its_place ports run stands in
+        let is = puts.each at.bound (file_at number run.world) at.is in
+        record {
+          value = tt {0};
+          run = record run { world = without_buffer number (with_byte number run.world is.0) };
+          same = ap (λ answer. led run.store run.world (put_byte number run.world answer)) is.1;
+          is = tt;
+          stands = changed_run kinds ports before run number now
+              (without_buffer number (with_byte number run.world is.0)) stands refl refl
+              (subst (AreFiles ports (slice_set before.files number now)) (sym (put_file run.world is.0 at.there))
+              (at.others now (put_of is.0 (file_at number run.world)) is.2));
+        };
+  }
+  does_put (Err (Wrong kind)) puts = record {
+    each = λ ports run stands within.
+        let at = its_place ports run stands in
+        let is = puts.each at.bound (file_at number run.world) at.is in
+        (run.world, record {
+          same = ap (λ answer. led run.store run.world (put_byte number run.world answer)) is.0;
+          stands = (as_before most kinds before number default now less ports run stands is.1).world;
+        });
+  }
+  does_put (Err Failed) puts = record {
+    each = λ ports run stands within.
+        let at = its_place ports run stands in
+        let is = puts.each at.bound (file_at number run.world) at.is in
+        subst (IsMoment (slice_set before.files number now) run.world)
+        (sym (ap (λ answer. world_of (led run.store run.world (put_byte number run.world answer))) is.1))
+        (put_or ports run at is.0 is.2);
+  }
+    where
+      put_or : (ports : List PortState) (run : Run Store) → FileAt ports before.files run.world.files number its_file
+          → (byte : ℕ) → Shows (file_at number run.world).bytes now.told
+          ⊎ Shows ((file_at number run.world).bytes ++ byte ∷ []) now.told
+          → IsMoment (slice_set before.files number now) run.world
+          (without_buffer number (with_byte number run.world byte))
+      put_or ports run at byte (inl shows) =
+          moment_on (slice_set before.files number now) run.world run.world
+          (without_buffer number (with_byte number run.world byte)) (put_on run.world byte).trail
+          (still ports before run.world number its_file now at shows)
+      put_or ports run at byte (inr shows) =
+          moment_on (slice_set before.files number now) run.world (with_byte number run.world byte)
+          (without_buffer number (with_byte number run.world byte)) as_it_was
+          (part_put number ports before run.world its_file now 1 (byte ∷ []) at shows)
+
+-- a machine in which one file changed
+pub record ChangesFile (number : ℕ) (before now : MachineState) (file new : KeptFile) : Type 0 where
+  pub there : number < length before.files
+  pub is : file ≡ slice_index_or before.files number file
+  pub same : now ≡ with_kept number new before
+
+-- the same as the fields of a machine tell
+pub file_changed : {R : Type 0} (kept_of : R → KeptFile) (view before : MachineState) (found : List R) (number : ℕ)
+    (file new : R) → view ≡ before → view.files ≡ map kept_of found → file ≡ slice_index_or found number file
+    → number < length before.files
+    → ChangesFile number before (record view { files = map kept_of (slice_set found number new) }) (kept_of file)
+    (kept_of new)
+file_changed kept_of view before found number file new same are is there =
+    let all : before.files ≡ map kept_of found = sym (ap (λ (machine : MachineState). machine.files) same) ∙ are in
+    record {
+      there = there;
+      is = ap kept_of is
+          ∙ sym (ap (λ files. slice_index_or files number (kept_of file)) all
+          ∙ get_or-map kept_of found number file (kept_of file)
+          (omega (arith, there, ap length all, length-map found kept_of)));
+      same = ap (λ (files : List KeptFile). record view { files = files })
+          (map-set kept_of found number new ∙ ap (λ files. slice_set files number (kept_of new)) (sym are))
+          ∙ ap (with_kept number (kept_of new)) same;
+    }
+
+-- each kind of step as what the machine does
+module _ (most : ℕ) (kinds : Kinds) (number : ℕ) (before now : MachineState) (file new : KeptFile)
+    (changes : ChangesFile number before now file new) where
+  moved : {A T : Type 0} (Is : T → A → Type 0) (doing : Doing Store A) (answer : Result T Refused)
+      (result : Result T Stop) → result ≡ stopped answer
+      → Does most kinds kinds Is doing before (with_kept number new before) (stopped answer)
+      → Does most kinds kinds Is doing before now result
+  moved Is doing answer result is does =
+      subst (λ machine. Does most kinds kinds Is doing before machine result) (sym changes.same)
+      (subst (Does most kinds kinds Is doing before (with_kept number new before)) (sym is) does)
+
+  pub does_ask : {A T : Type 0} (question : File → Answer A) (seen : T → A) (answer : Result T Refused)
+      (result : Result T Stop) → result ≡ stopped answer
+      → Asks question seen file.state file.told new.state new.told answer
+      → Does most kinds kinds (λ found value. seen found ≡ value) (asks number question) before now result
+  does_ask question seen answer result is asked =
+      moved (λ found value. seen found ≡ value) (asks number question) answer result is
+      (does_asked most kinds before number file new changes.there question seen answer
+      (subst (λ (file : KeptFile). Asks question seen file.state file.told new.state new.told answer) changes.is
+      asked))
+
+  pub does_make : (step : File → Answer File) (answer : Result (Unit {0}) Refused) (result : Result (Unit {0}) Stop)
+      → result ≡ stopped answer → Makes step file.state file.told new.state new.told answer
+      → Does most kinds kinds Any (change_file {S = Store} number step) before now result
+  does_make step answer result is made =
+      moved Any (change_file {S = Store} number step) answer result is
+      (does_made most kinds before number file new changes.there step answer
+      (subst (λ (file : KeptFile). Makes step file.state file.told new.state new.told answer) changes.is made))
+
+  pub does_append : (bytes : File → Answer (List ℕ)) (answer : Result (Unit {0}) Refused)
+      (result : Result (Unit {0}) Stop) → result ≡ stopped answer
+      → Appends bytes file.state file.told new.state new.told answer
+      → Does most kinds kinds Any (append {S = Store} number bytes) before now result
+  does_append bytes answer result is added =
+      moved Any (append {S = Store} number bytes) answer result is
+      (does_appended most kinds before number file new changes.there bytes answer
+      (subst (λ (file : KeptFile). Appends bytes file.state file.told new.state new.told answer) changes.is added))
+
+  pub does_rewrite : (answer : Result (Unit {0}) Refused) (result : Result (Unit {0}) Stop)
+      → result ≡ stopped answer → Rewrites file.state file.told new.state new.told answer
+      → Does most kinds kinds Any (rewrite {S = Store} number) before now result
+  does_rewrite answer result is written =
+      moved Any (rewrite {S = Store} number) answer result is
+      (does_rewritten most kinds before number file new changes.there answer
+      (subst (λ (file : KeptFile). Rewrites file.state file.told new.state new.told answer) changes.is written))
+
+  pub does_put_byte : (answer : Result (Unit {0}) Refused) (result : Result (Unit {0}) Stop)
+      → result ≡ stopped answer → Puts file.state file.told new.state new.told answer
+      → Does most kinds kinds Any (put {S = Store} number) before now result
+  does_put_byte answer result is puts =
+      moved Any (put {S = Store} number) answer result is
+      (does_put most kinds before number file new changes.there answer
+      (subst (λ (file : KeptFile). Puts file.state file.told new.state new.told answer) changes.is puts))
+
+-- the failed calls of the one file are those of the machine
+module _ (number : ℕ) (before now : MachineState) (file new : KeptFile)
+    (changes : ChangesFile number before now file new) where
+  own_count : slice_index_or (failures_of before.files) number 0 ≡ file.failures
+  own_count =
+      get_or-map (λ (kept : KeptFile). kept.failures) before.files number file 0 changes.there
+      ∙ ap (λ (kept : KeptFile). kept.failures) (sym changes.is)
+
+  counts_now : failures_of now.files ≡ slice_set (failures_of before.files) number new.failures
+  counts_now =
+      ap (λ (machine : MachineState). failures_of machine.files) changes.same
+      ∙ map-set (λ (kept : KeptFile). kept.failures) before.files number new
+
+  there_too : number < length (failures_of before.files)
+  there_too = omega (arith, changes.there, length-map before.files (λ (kept : KeptFile). kept.failures))
+
+  counts_by : (failed : Bool) → CountsFailure failed file.failures new.failures
+      → CountFailures failed before.files now.files
+  counts_by true rose = record {
+    number = number;
+    there = changes.there;
+    rose = subst₂ Rose (sym own_count)
+        (sym (ap (λ counts. slice_index_or counts number 0) counts_now
+        ∙ get_or-set_same (failures_of before.files) number new.failures 0 there_too)) rose;
+  }
+  counts_by false same =
+      counts_now ∙ ap (slice_set (failures_of before.files) number) (same ∙ sym own_count)
+      ∙ set-get_or (failures_of before.files) number 0
+
+  same_failed : {T : Type 0} (answer : Result T Refused)
+      → files_spec.is_port_failed answer ≡ is_port_failed (stopped answer)
+  same_failed (Ok value) = refl
+  same_failed (Err (Wrong kind)) = refl
+  same_failed (Err Failed) = refl
+
+  pub counts_file : {T : Type 0} (answer : Result T Refused) (result : Result T Stop) → result ≡ stopped answer
+      → CountsFailure (files_spec.is_port_failed answer) file.failures new.failures
+      → CountFailures (is_port_failed result) before.files now.files
+  counts_file answer result is cause =
+      subst (λ result. CountFailures (is_port_failed result) before.files now.files) (sym is)
+      (subst (λ failed. CountFailures failed before.files now.files) (same_failed answer)
+      (counts_by (files_spec.is_port_failed answer) cause))

@@ -1,4 +1,6 @@
 //! Why a run stops, and how a statement goes on.
+ghost use Rattle.std.specs.Prelude.{◌≡◌};
+ghost use Rattle.pas_run.specs.inner.Doings as spec;
 
 use crate::Refused;
 use std::alloc::{AllocError, AllocFailed};
@@ -30,6 +32,13 @@ pub(crate) enum Flow {
     Leaves,
     // At a label of a list around it.
     Jump(u32),
+}
+
+// What a step of a file answers, or why the run stops.
+pub(crate) fn stopped<T: Drop>(answer: Result<T, Refused>) -> Result<T, Stop>
+    ensures { result ≡ spec.stopped answer }
+{
+    Ok(answer?)
 }
 
 impl From<Refused> for Stop {

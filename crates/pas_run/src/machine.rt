@@ -5,10 +5,12 @@ ghost use Rattle.std.specs.Prelude.{Some};
 ghost use Rattle.pas_meaning.specs.Outcome as run;
 ghost use Rattle.pas_meaning.specs.Standing.{Kinds};
 ghost use Rattle.pas_run.specs.inner.FlatStore.{cell_in, with_cell, cells_at, behind_by};
-ghost use Rattle.pas_run.specs.inner.Doings.{Does, Any};
+ghost use Rattle.pas_run.specs.inner.Doings.{Does, Any, Same, asks, is_port_failed};
+ghost use Rattle.pas_run.specs.inner.MachineState.{CountFailures};
+ghost use Rattle.pas_meaning.specs.Files as files;
 
 use crate::cells::{Address, Cell};
-use crate::ends::Stop;
+use crate::ends::{Stop, stopped};
 use crate::files::RunFile;
 use pas_meaning::CALL_LIMIT;
 use std::alloc::Global;
@@ -123,5 +125,16 @@ impl<P: Port> Machine<P> {
         }
         self.calls += 1;
         Ok(())
+    }
+
+    // Whether a file is at its end.
+    pub(crate) fn eof(&mut self, file: usize) -> Result<bool, Stop>
+        requires { file < length self.old.files }
+        ensures does { (most : ℕ) (kinds : Kinds)
+            → Does most kinds kinds Same (asks file files.eof) self.old self.new result }
+        ensures cause { CountFailures (is_port_failed result) self.old.files self.new.files }
+        ensures same { self.new ≡ record self.old { files = self.new.files } }
+    {
+        stopped(self.files[file].eof())
     }
 }

@@ -4,7 +4,9 @@ use Rattle.wb_ports.specs.PortState.{PortState}
 use Rattle.pas_typed.specs.Typed.{Slot}
 use Rattle.pas_meaning.specs.Answers.{Answer, fine, wrong}
 use Rattle.pas_meaning.specs.Outcome.{Output, World, Run, Outcome, gives, ends, errs, Doing, halted, going, too_deep}
-use Rattle.pas_meaning.specs.Outcome.{replay}
+use Rattle.pas_meaning.specs.Outcome.{replay, ask}
+use Rattle.pas_meaning.specs.Files.{File}
+use Rattle.pas_meaning.specs.FileSteps.{file_at}
 use Rattle.pas_meaning.specs.Store.{Datum, holds, Store, home_of, along, stored}
 use Rattle.pas_meaning.specs.Standing.{Kinds}
 use Rattle.pas_meaning.specs.Laws.{Extends, bytes_in, world_of}
@@ -18,6 +20,10 @@ use Rattle.pas_run.specs.inner.MachineState.{KeptFile, MachineState, AreShown, I
 abbrev pub stop_by : Refused → Stop
 stop_by (refused.Wrong kind) = stop.Wrong kind
 stop_by refused.Failed = stop.PortFailed
+
+abbrev pub stopped : {T : Type 0} → Result T Refused → Result T Stop
+stopped (Ok value) = Ok value
+stopped (Err refused) = Err (stop_by refused)
 
 -- whether a run stops since a call of a port failed
 abbrev pub is_port_failed : {T : Type 0} → Result T Stop → Bool
@@ -84,3 +90,7 @@ Answers Is answer (Err why) = ⊥
 -- the variables after a datum is stored in the part of one at a path
 abbrev pub stored_at : Slot → List ℕ → Datum → Store → Store
 stored_at slot path datum store = stored (along (home_of slot store) path) datum store
+
+-- a question to a file
+abbrev pub asks : {A : Type 0} → ℕ → (File → Answer A) → Doing Store A
+asks number question = ask (λ store world. question (file_at number world))
