@@ -13,7 +13,7 @@ pub(crate) enum Cell {
     // Nothing that is defined.
     Undefined,
     // A number.
-    Holds(i64),
+    Holds(i32),
     // A variable parameter: where its variable begins.
     Refers(Address),
 }

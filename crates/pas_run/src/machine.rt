@@ -8,6 +8,7 @@ ghost use Rattle.pas_run.specs.inner.FlatStore.{cell_in, with_cell, cells_at, be
 ghost use Rattle.pas_run.specs.inner.Doings.{Does, Any, Same, asks, is_port_failed};
 ghost use Rattle.pas_run.specs.inner.MachineState.{CountFailures};
 ghost use Rattle.pas_meaning.specs.Files as files;
+ghost use Rattle.pas_meaning.specs.FileSteps as steps;
 
 use crate::cells::{Address, Cell};
 use crate::ends::{Stop, stopped};
@@ -136,5 +137,126 @@ impl<P: Port> Machine<P> {
         ensures same { self.new ≡ record self.old { files = self.new.files } }
     {
         stopped(self.files[file].eof())
+    }
+
+    // Whether the end of a line is at the place of a file.
+    pub(crate) fn eoln(&mut self, file: usize) -> Result<bool, Stop>
+        requires { file < length self.old.files }
+        ensures does { (most : ℕ) (kinds : Kinds) → Does most kinds kinds Same
+            (asks file files.eoln) self.old self.new result }
+        ensures cause { CountFailures (is_port_failed result) self.old.files self.new.files }
+        ensures same { self.new ≡ record self.old { files = self.new.files } }
+    {
+        stopped(self.files[file].eoln())
+    }
+
+    // The buffer of a file that is read.
+    pub(crate) fn buffer_read(&mut self, file: usize) -> Result<u8, Stop>
+        requires { file < length self.old.files }
+        ensures does { (most : ℕ) (kinds : Kinds) → Does most kinds kinds Same
+            (asks file files.buffer_read) self.old self.new result }
+        ensures cause { CountFailures (is_port_failed result) self.old.files self.new.files }
+        ensures same { self.new ≡ record self.old { files = self.new.files } }
+    {
+        stopped(self.files[file].buffer_read())
+    }
+
+    // Reset.
+    pub(crate) fn reset(&mut self, file: usize) -> Result<(), Stop>
+        requires { file < length self.old.files }
+        ensures does { (most : ℕ) (kinds : Kinds) → Does most kinds kinds Any
+            (steps.reset file) self.old self.new result }
+        ensures cause { CountFailures (is_port_failed result) self.old.files self.new.files }
+        ensures same { self.new ≡ record self.old { files = self.new.files } }
+    {
+        stopped(self.files[file].reset())
+    }
+
+    // Rewrite.
+    pub(crate) fn rewrite(&mut self, file: usize) -> Result<(), Stop>
+        requires { file < length self.old.files }
+        ensures does { (most : ℕ) (kinds : Kinds) → Does most kinds kinds Any
+            (steps.rewrite file) self.old self.new result }
+        ensures cause { CountFailures (is_port_failed result) self.old.files self.new.files }
+        ensures same { self.new ≡ record self.old { files = self.new.files } }
+    {
+        stopped(self.files[file].rewrite())
+    }
+
+    // Get.
+    pub(crate) fn get(&mut self, file: usize) -> Result<(), Stop>
+        requires { file < length self.old.files }
+        ensures does { (most : ℕ) (kinds : Kinds) → Does most kinds kinds Any
+            (steps.change_file file files.get) self.old self.new result }
+        ensures cause { CountFailures (is_port_failed result) self.old.files self.new.files }
+        ensures same { self.new ≡ record self.old { files = self.new.files } }
+    {
+        stopped(self.files[file].get())
+    }
+
+    // Put.
+    pub(crate) fn put(&mut self, file: usize) -> Result<(), Stop>
+        requires { file < length self.old.files }
+        ensures does { (most : ℕ) (kinds : Kinds) → Does most kinds kinds Any
+            (steps.put file) self.old self.new result }
+        ensures cause { CountFailures (is_port_failed result) self.old.files self.new.files }
+        ensures same { self.new ≡ record self.old { files = self.new.files } }
+    {
+        stopped(self.files[file].put())
+    }
+
+    // The buffer of a file that is written is set.
+    pub(crate) fn buffer_set(&mut self, file: usize, byte: u8) -> Result<(), Stop>
+        requires { file < length self.old.files }
+        ensures does { (most : ℕ) (kinds : Kinds) → Does most kinds kinds Any
+            (steps.change_file file (files.buffer_set byte)) self.old self.new result }
+        ensures cause { CountFailures (is_port_failed result) self.old.files self.new.files }
+        ensures same { self.new ≡ record self.old { files = self.new.files } }
+    {
+        stopped(self.files[file].buffer_set(byte))
+    }
+
+    // Writes a number on a text in a field of this width.
+    pub(crate) fn write_number(&mut self, file: usize, number: i32, width: i32) -> Result<(), Stop>
+        requires { file < length self.old.files }
+        ensures does { (most : ℕ) (kinds : Kinds) → Does most kinds kinds Any
+            (steps.append file (files.written (λ field. files.number_in_field field number) width)) self.old self.new result }
+        ensures cause { CountFailures (is_port_failed result) self.old.files self.new.files }
+        ensures same { self.new ≡ record self.old { files = self.new.files } }
+    {
+        stopped(self.files[file].write_number(number, width))
+    }
+
+    // Writes a byte on a text in a field of this width.
+    pub(crate) fn write_char(&mut self, file: usize, byte: u8, width: i32) -> Result<(), Stop>
+        requires { file < length self.old.files }
+        ensures does { (most : ℕ) (kinds : Kinds) → Does most kinds kinds Any
+            (steps.append file (files.written (λ field. files.char_in_field field byte) width)) self.old self.new result }
+        ensures cause { CountFailures (is_port_failed result) self.old.files self.new.files }
+        ensures same { self.new ≡ record self.old { files = self.new.files } }
+    {
+        stopped(self.files[file].write_char(byte, width))
+    }
+
+    // Writes a string on a text in a field of this width.
+    pub(crate) fn write_text(&mut self, file: usize, bytes: &[u8], width: i32) -> Result<(), Stop>
+        requires { file < length self.old.files }
+        ensures does { (most : ℕ) (kinds : Kinds) → Does most kinds kinds Any
+            (steps.append file (files.written (λ field. files.string_in_field field bytes.now) width)) self.old self.new result }
+        ensures cause { CountFailures (is_port_failed result) self.old.files self.new.files }
+        ensures same { self.new ≡ record self.old { files = self.new.files } }
+    {
+        stopped(self.files[file].write_text(bytes, width))
+    }
+
+    // Ends a line of a text.
+    pub(crate) fn writeln(&mut self, file: usize) -> Result<(), Stop>
+        requires { file < length self.old.files }
+        ensures does { (most : ℕ) (kinds : Kinds) → Does most kinds kinds Any
+            (steps.append file files.writeln) self.old self.new result }
+        ensures cause { CountFailures (is_port_failed result) self.old.files self.new.files }
+        ensures same { self.new ≡ record self.old { files = self.new.files } }
+    {
+        stopped(self.files[file].writeln())
     }
 }

@@ -53,7 +53,7 @@ impl<P: Port> Machine<P> {
     }
 
     // The number that the cell of a variable holds behind so many of its cells.
-    pub(crate) fn number_at(&self, scene: Scene<'_>, slot: Slot, behind: u32) -> Result<i64, Stop>
+    pub(crate) fn number_at(&self, scene: Scene<'_>, slot: Slot, behind: u32) -> Result<i32, Stop>
         ensures { (variables : List typed.Variable) (result' : Option types.PasType) (kinds : Kinds)
             → IsScene scene.entry variables result' kinds
             → IsLawfulSlot (program_view scene.entry.program.now) variables (slot_view slot)
@@ -66,7 +66,7 @@ impl<P: Port> Machine<P> {
     }
 
     // The cell of a variable behind so many of its cells gets a number, or nothing that is defined.
-    pub(crate) fn set_number(&mut self, scene: Scene<'_>, slot: Slot, behind: u32, number: Option<i64>)
+    pub(crate) fn set_number(&mut self, scene: Scene<'_>, slot: Slot, behind: u32, number: Option<i32>)
         ensures does { (variables : List typed.Variable) (result' : Option types.PasType) (kinds : Kinds)
             → IsScene scene.entry variables result' kinds
             → IsLawfulSlot (program_view scene.entry.program.now) variables (slot_view slot)
@@ -81,7 +81,7 @@ impl<P: Port> Machine<P> {
 }
 
 // The cell of a variable that is a number, or undefined.
-fn cell_of(number: Option<i64>) -> Cell
+fn cell_of(number: Option<i32>) -> Cell
     ensures { result ≡ number_cell number }
 {
     match number {
@@ -91,7 +91,7 @@ fn cell_of(number: Option<i64>) -> Cell
 }
 
 // The number that a cell of a variable holds.
-fn number_in(cell: Cell) -> Result<i64, Stop>
+fn number_in(cell: Cell) -> Result<i32, Stop>
     ensures { (datum : store.Datum) → cell ≡ number_cell (store.number_in datum)
         → Answers Same (store.number_of datum) result }
 {
