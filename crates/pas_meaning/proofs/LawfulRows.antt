@@ -53,8 +53,8 @@ call_is_lawful =
           variables = refl;
           declared = all_from declared [] tt;
           statements = (
-            (here _ _ _ refl refl refl, (here _ _ _ refl refl refl, tt, refl, refl), inl (refl, refl)),
-            ((refl, refl, (tt, refl)), tt),
+            (here _ _ _ refl refl refl, (here _ _ _ refl refl refl, refl, refl, refl), inl (refl, refl)),
+            ((refl, refl, (refl, refl)), tt),
           );
         },
         tt,
@@ -62,11 +62,11 @@ call_is_lawful =
       bodies_once = (tt, tt);
       routines = routines;
       statements = (
-        (here _ _ _ refl refl refl, tt, inl (refl, refl)),
+        (here _ _ _ refl refl refl, refl, inl (refl, refl)),
         (
-          ((here _ _ _ refl refl refl, tt, refl, refl), tt, inl (refl, refl)),
+          ((here _ _ _ refl refl refl, refl, refl, refl), refl, inl (refl, refl)),
           (
-            ((here _ _ _ refl refl refl, tt, refl, refl), tt, inl (refl, refl)),
+            ((here _ _ _ refl refl refl, refl, refl, refl), refl, inl (refl, refl)),
             (
               (
                 (here _ _ _ refl refl refl, here _ _ _ refl refl refl, refl, refl),
@@ -77,13 +77,13 @@ call_is_lawful =
                 (
                   (here _ _ _ refl refl refl, refl),
                   all_one (IsLawfulItem index_behind_right_side []) _
-                      (((((here _ _ _ refl refl refl, tt, refl, refl), tt, refl, refl), refl), refl), tt),
+                      (((((here _ _ _ refl refl refl, refl, refl, refl), refl, refl, refl), refl), refl), tt),
                 ),
                 (
                   (
                     (here _ _ _ refl refl refl, refl),
                     all_one (IsLawfulItem index_behind_right_side []) _
-                        (((((here _ _ _ refl refl refl, tt, refl, refl), tt, refl, refl), refl), refl), tt),
+                        (((((here _ _ _ refl refl refl, refl, refl, refl), refl, refl, refl), refl), refl), tt),
                   ),
                   tt,
                 ),

@@ -105,7 +105,7 @@ module _ (program later : TypedProgram) (grows : Grows program later) (variables
 
   mutual
     pub value_stays : (found : Value) → IsLawfulValue program variables found → IsLawfulValue later variables found
-    value_stays (typed.constant base number) is = tt
+    value_stays (typed.constant base number) is = is
     value_stays (typed.read place) is = place_stays place is
     value_stays (typed.call routine type passed) is =
         (is.0, grows.headings.each routine is.0 is.1, is.2, passed_stays passed is.0.parameters is.3)

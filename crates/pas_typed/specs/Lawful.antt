@@ -2,10 +2,10 @@
 -- project's own: a meaning on cells, and a translation, stand on it.
 use Rattle.std.specs.Prelude.{◌≡◌, ℕ, ◌==◌, ◌<◌, List, [], ◌∷◌, ◌++◌, length, map, find, slice_get, Option, Some}
 use Rattle.std.specs.Prelude.{None, option_map, option_and_then, ⊤, ◌⊎◌}
-use Rattle.std.specs.Bool.{IsFalse}
+use Rattle.std.specs.Bool.{IsTrue, IsFalse}
 use Rattle.std.specs.Option.{IsSome, IfSome, IsSomeAnd}
 use Rattle.std.specs.List.{All, IsDistinct}
-use Rattle.pas_typed.specs.Types.{PasType, Table, range_of, component_of, elements_of, fields_of}
+use Rattle.pas_typed.specs.Types.{PasType, Table, all_of, is_within, range_of, component_of, elements_of, fields_of}
 use Rattle.pas_typed.specs.Typed as typed
 use Rattle.pas_typed.specs.Typed.{Home, Variable, Slot, Value, Place, Passed, Item, Statement, Statements, Arms}
 use Rattle.pas_typed.specs.Typed.{Heading, Body, TypedProgram}
@@ -49,7 +49,7 @@ module _ (program : TypedProgram) (variables : List Variable) where
 
   abbrev mutual
     pub IsLawfulValue : Value → Type 0
-    IsLawfulValue (typed.constant base number) = ⊤
+    IsLawfulValue (typed.constant base number) = IsTrue (is_within (all_of base) number)
     IsLawfulValue (typed.read place) = IsLawfulPlace place
     IsLawfulValue (typed.call routine type passed) =
         (heading : Heading) × (slice_get program.headings routine ≡ Some heading) × (heading.result ≡ Some type)
