@@ -3,9 +3,9 @@ use Rattle.std.proofs.Common.{◌≡◌, ◌≤◌, ℕ, arith, List, refl, sym,
 use Rattle.std.proofs.Common.{◌+◌, suc, Bool, true, false, length, slice_index_or}
 use Rattle.std.proofs.lemmas.List.{length-map}
 use Rattle.wb_ports.specs.PortState.{PortState}
-use Rattle.pas_meaning.specs.Answers.{Answer, fine, wrong}
+use Rattle.pas_meaning.specs.Answers.{Answer, fine, wrong, then_answer}
 use Rattle.pas_meaning.specs.Outcome.{World, Run, Outcome, gives, ends, errs, Doing, halted, going, too_deep, pure}
-use Rattle.pas_meaning.specs.Outcome.{and_then, ◌>>=◌, ◌>>◌, answered, take_step}
+use Rattle.pas_meaning.specs.Outcome.{and_then, ◌>>=◌, ◌>>◌, answered, ask, take_step}
 use Rattle.pas_meaning.specs.Store.{Datum, Store}
 use Rattle.pas_meaning.specs.Standing.{Kinds}
 use Rattle.pas_meaning.specs.Laws.{Extends, Onward, Goes, world_of}
@@ -174,3 +174,33 @@ counts_on true first between now same counts = record {
       (slice_index_or (failures_of now) counts.number 0)) same counts.rose;
 }
 counts_on false first between now same counts = counts ∙ same
+
+-- a question to the variables and the world, which leaves the machine
+pub does_question : {A T : Type 0} (most : ℕ) (kinds : Kinds) (Is : T → A → Type 0)
+    (question : Store → World → Answer A) (machine : MachineState) (result : Result T Stop)
+    → ((ports : List PortState) (run : Run Store) → IsRun kinds ports machine run
+    → Answers Is (question run.store run.world) result)
+    → Does most kinds kinds Is (ask question) machine machine result
+does_question most kinds Is question machine result answers = record {
+  each = λ ports run stands within.
+      (does_answered most kinds Is (question run.store run.world) machine result (answers ports run stands)).each ports
+      run stands within;
+}
+
+-- a question that goes on where another one is answered
+asked_then : {A B : Type 0} (answer : Answer A) (next : A → Store → World → Answer B) (run : Run Store)
+    → and_then (answered answer run) (λ value. ask (next value))
+    ≡ answered (then_answer answer (λ value. next value run.store run.world)) run
+asked_then (fine value) next run = refl
+asked_then (wrong kind) next run = refl
+
+pub does_asked_then : {A B T : Type 0} (most : ℕ) (kinds later : Kinds) (Is : T → B → Type 0)
+    (question : Store → World → Answer A) (next : A → Store → World → Answer B) (before now : MachineState)
+    (result : Result T Stop) → Does most kinds later Is (ask question >>= (λ value. ask (next value))) before now result
+    → Does most kinds later Is
+    (ask (λ store world. then_answer (question store world) (λ value. next value store world))) before now result
+does_asked_then most kinds later Is question next before now result does = record {
+  each = λ ports run stands within.
+      subst (λ outcome. Done later ports Is run.world outcome now result)
+      (asked_then (question run.store run.world) next run) (does.each ports run stands within);
+}

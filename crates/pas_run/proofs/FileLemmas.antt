@@ -1,17 +1,18 @@
 -- Steps of the files of a machine as steps of a run.
 use Rattle.std.proofs.Common.{◌≡◌, ℕ, zero, suc, ◌+◌, ◌<◌, ◌≤◌, List, [], ◌∷◌, ◌++◌, length, map, take, drop}
 use Rattle.std.proofs.Common.{slice_index_or, slice_set, arith, refl, sym, ap, ap₂, ◌∙◌, subst, Result, Ok, Err, Option}
-use Rattle.std.proofs.Common.{Bool, true, false, subst₂, append_assoc, append-nil, take-append-drop, ◌⊎◌, inl, inr}
+use Rattle.std.proofs.Common.{Bool, true, false, if◌then◌else◌, lt-ltb, le-ltb, subst₂, append_assoc, append-nil, take-append-drop, ◌⊎◌, inl, inr}
 use Rattle.std.proofs.lemmas.List.{map-set, get_or-map, set-set, set-get_or, get_or-set_same, length-set, length-map}
 use Rattle.std.proofs.lemmas.List.Sums.{fold-append}
 use Rattle.wb_ports.specs.PortState.{PortState}
 use Rattle.wb_ports.specs.Counts.{Rose, CountsFailure}
 use Rattle.pas_meaning.specs.Answers.{Answer, fine, wrong}
+use Rattle.pas_meaning.specs.declared.errors.TheConstants.{WRONG_MODE}
 use Rattle.pas_meaning.specs.Files as files
 use Rattle.pas_meaning.specs.Files.{File}
 use Rattle.pas_meaning.specs.Outcome.{Output, World, Run, Outcome, gives, errs, Doing, Worldly, passes, fails, led, ask}
 use Rattle.pas_meaning.specs.Outcome.{answered, replay, emptied}
-use Rattle.pas_meaning.specs.FileSteps.{no_file, file_at, with_file, left, change_file, append, appended, with_byte}
+use Rattle.pas_meaning.specs.FileSteps.{no_file, file_at, file_named, with_file, left, change_file, append, appended, with_byte}
 use Rattle.pas_meaning.specs.FileSteps.{with_bytes, rewrite, emptied_file, put, put_byte, without_buffer}
 use Rattle.pas_meaning.specs.Store.{Store}
 use Rattle.pas_meaning.specs.Standing.{Kinds}
@@ -556,3 +557,28 @@ module _ (number : ℕ) (before now : MachineState) (file new : KeptFile)
       subst (λ result. CountFailures (is_port_failed result) before.files now.files) (sym is)
       (subst (λ failed. CountFailures failed before.files now.files) (same_failed answer)
       (counts_by (files_spec.is_port_failed answer) cause))
+
+-- as many files are kept as the world has
+pub many_files : (ports : List PortState) (kept : List KeptFile) (found : List File) → AreFiles ports kept found
+    → length kept ≡ length found
+many_files [] [] [] are = refl
+many_files [] [] (file ∷ found) are = absurd are
+many_files [] (own ∷ kept) found are = absurd are
+many_files (bound ∷ ports) [] found are = absurd are
+many_files (bound ∷ ports) (own ∷ kept) [] are = absurd are
+many_files (bound ∷ ports) (own ∷ kept) (file ∷ found) are = ap suc (many_files ports kept found are.1)
+
+-- a file that is there by its number
+module _ (ports : List PortState) (machine : MachineState) (world : World) (number : ℕ)
+    (is : IsWorld ports machine world) where
+  pub named_there : number < length machine.files → file_named number world ≡ fine number
+  named_there less =
+      ap (λ there. if there then fine number else wrong WRONG_MODE)
+      (lt-ltb number (length world.files)
+      (omega (arith, less, many_files ports machine.files world.files is.files)))
+
+  pub named_nowhere : length machine.files ≤ number → file_named number world ≡ wrong WRONG_MODE
+  named_nowhere past =
+      ap (λ there. if there then fine number else wrong WRONG_MODE)
+      (le-ltb number (length world.files)
+      (omega (arith, past, many_files ports machine.files world.files is.files)))

@@ -1,19 +1,20 @@
 //! What a run holds: the activations, its steps and its active calls, and its files.
-ghost use Rattle.std.specs.Prelude.{◌≡◌, ℕ, ◌≤◌, ◌<◌, ◌+◌, ◌-◌, ◌^◌, length, IfOk, OnErr, ⊤};
+ghost use Rattle.std.specs.Prelude.{◌≡◌, ℕ, ◌≤◌, ◌<◌, ◌+◌, ◌-◌, ◌^◌, length, nat_abs, List, IfOk, ⊤};
 ghost use Rattle.pas_meaning.specs.declared.errors.TheConstants.{CALL_LIMIT};
 ghost use Rattle.std.specs.Prelude.{Some};
 ghost use Rattle.pas_meaning.specs.Outcome as run;
 ghost use Rattle.pas_meaning.specs.Standing.{Kinds};
 ghost use Rattle.pas_run.specs.inner.FlatStore.{cell_in, with_cell, cells_at, behind_by};
-ghost use Rattle.pas_run.specs.inner.Doings.{Does, Any, Same, asks, is_port_failed};
-ghost use Rattle.pas_run.specs.inner.MachineState.{CountFailures};
+ghost use Rattle.pas_run.specs.inner.Doings.{Does, Answers, Any, Same, asks, is_port_failed};
+ghost use Rattle.pas_run.specs.inner.MachineState.{IsWorld, CountFailures};
+ghost use Rattle.wb_ports.specs.PortState.{PortState};
 ghost use Rattle.pas_meaning.specs.Files as files;
 ghost use Rattle.pas_meaning.specs.FileSteps as steps;
 
 use crate::cells::{Address, Cell};
 use crate::ends::{Stop, stopped};
 use crate::files::RunFile;
-use pas_meaning::CALL_LIMIT;
+use pas_meaning::{CALL_LIMIT, WRONG_MODE};
 use std::alloc::Global;
 use std::marker::Model;
 use wb_ports::Port;
@@ -126,6 +127,27 @@ impl<P: Port> Machine<P> {
         }
         self.calls += 1;
         Ok(())
+    }
+
+    // How many files there are.
+    fn file_count(&self) -> usize
+        ensures { result ≡ length self.now.files }
+    {
+        self.files.len()
+    }
+
+    // A file that is there, by its number: one that is not is in no mode.
+    pub(crate) fn file_named(&self, number: i32) -> Result<usize, Stop>
+        ensures named { (ports : List PortState) (world : run.World) → IsWorld ports self.now world
+            → Answers Same (steps.file_named (nat_abs number) world) result }
+        ensures there { IfOk result (λ file. file < length self.now.files) }
+    {
+        let file = number.unsigned_abs() as usize;
+        if file < self.file_count() {
+            Ok(file)
+        } else {
+            Err(Stop::Wrong(WRONG_MODE))
+        }
     }
 
     // Whether a file is at its end.
