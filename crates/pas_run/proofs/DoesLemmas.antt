@@ -204,3 +204,26 @@ does_asked_then most kinds later Is question next before now result does = recor
       subst (λ outcome. Done later ports Is run.world outcome now result)
       (asked_then (question run.store run.world) next run) (does.each ports run stands within);
 }
+
+-- an answer that goes on
+module _ {A B T U : Type 0} (Is : T → A → Type 0) (IsThen : U → B → Type 0) (answer : Answer A)
+    (next : A → Answer B) where
+  pub then_stops : (why : Stop) → Answers Is answer (Err why) → Answers IsThen (then_answer answer next) (Err why)
+  then_stops (stop.Wrong kind) is = ap (λ answer. then_answer answer next) is
+  then_stops (stop.Halted status) is = absurd is
+  then_stops stop.Going is = absurd is
+  then_stops stop.TooDeep is = absurd is
+  then_stops stop.PortFailed is = absurd is
+  then_stops stop.OutOfMemory is = absurd is
+
+  pub then_answers : (found : T) (result : Result U Stop) → Answers Is answer (Ok found)
+      → ((value : A) → Is found value → Answers IsThen (next value) result)
+      → Answers IsThen (then_answer answer next) result
+  then_answers found result is answers =
+      subst (λ answer. Answers IsThen (then_answer answer next) result) (sym is.1) (answers is.0 is.2)
+
+-- where a `?` returns early
+pub answers_early : {A T : Type 0} (Is : T → A → Type 0) (answer : Answer A) (why : Stop) (result : Result T Stop)
+    → ((found : Stop) × (result ≡ Err found) × (found ≡ why)) → Answers Is answer (Err why) → Answers Is answer result
+answers_early Is answer why result is answers =
+    subst (Answers Is answer) (sym (is.1 ∙ ap Err is.2)) answers

@@ -1,16 +1,18 @@
 -- Parts of variables over a machine: what is read there and what is stored there.
 use Rattle.std.proofs.Common.{◌≡◌, ℕ, ◌+◌, List, [], Option, Some, None, ℤ, arith, refl, sym, ap, ap₂, ◌∙◌, subst}
-use Rattle.std.proofs.Common.{slice_index_or, Ok}
+use Rattle.std.proofs.Common.{slice_index_or, nat_abs, append-nil, Ok, Err, Result}
 use Rattle.wb_ports.specs.PortState.{PortState}
 use Rattle.pas_typed.specs.Types.{PasType}
 use Rattle.pas_typed.specs.Typed.{Variable, Slot, TypedProgram}
-use Rattle.pas_typed.specs.Lawful.{IsLawfulSlot}
+use Rattle.pas_typed.specs.Lawful.{IsLawful, IsLawfulSlot, IsFile}
 use Rattle.pas_typed.specs.Shapes.{Shape, one_cell, shape_of, Leads, offset}
-use Rattle.pas_typed.proofs.ShapeLemmas.{offset_on}
-use Rattle.pas_meaning.specs.Answers.{wrong, fine}
-use Rattle.pas_meaning.specs.Outcome.{Run, change}
+use Rattle.pas_typed.proofs.ShapeLemmas.{offset_on, shape_of-file}
+use Rattle.pas_meaning.specs.Answers.{Answer, then_answer}
+use Rattle.pas_meaning.specs.Outcome.{World, Run, change}
+use Rattle.pas_meaning.specs.FileSteps.{file_named}
+use Rattle.pas_meaning.specs.Run.{file_of}
 use Rattle.pas_meaning.specs.Store.{Datum, undefined, holds, Reference, Store, home_of, along, fetched, stored}
-use Rattle.pas_meaning.specs.Store.{number_in, number_of}
+use Rattle.pas_meaning.specs.Store.{number_in, number_at}
 use Rattle.pas_meaning.specs.Cells.{IsShaped}
 use Rattle.pas_meaning.specs.Standing.{Kinds, kind_at, Aims, Stands}
 use Rattle.pas_meaning.proofs.StandingLemmas.{aims_along, stands_stored}
@@ -22,7 +24,9 @@ use Rattle.pas_run.specs.inner.FlatStore.{cells_before, root_of, address_of, num
 use Rattle.pas_run.specs.inner.FlatStore.{behind_by}
 use Rattle.pas_run.specs.inner.MachineState.{MachineState, IsRun}
 use Rattle.pas_run.specs.inner.Scenes.{IsAt, IsCell}
-use Rattle.pas_run.specs.inner.Doings.{Any, Does, stored_at}
+use Rattle.pas_run.specs.inner.Doings.{Any, Same, Does, Answers, stored_at}
+use Rattle.pas_run.specs.declared.ends.Stop.{Stop}
+use Rattle.pas_run.proofs.DoesLemmas.{then_stops, then_answers}
 use Rattle.pas_run.proofs.FlatLemmas.{cell-fetched, cell-stored}
 
 -- a part begins behind the begin of what it is a part of
@@ -107,3 +111,40 @@ does_store program layouts locals variables result kinds at machine now slot is 
             leads.leads one);
       };
     }
+
+-- the cell that a file variable is, and its file
+pub file_cell : (program : TypedProgram) (slot : Slot) → IsLawful program → IsFile program.types slot.type
+    → IsCell program slot [] 0
+file_cell program slot lawful is =
+    record { leads = shape_of-file program.types slot.type lawful.types is; begins = refl }
+
+no_path : (reference : Reference) → along reference [] ≡ reference
+no_path reference =
+    ap (λ path. record { activation = reference.activation; variable = reference.variable; path = path })
+    (append-nil reference.path)
+
+module _ (slot : Slot) (store : Store) (world : World) where
+  its_number : Answer ℤ
+  its_number = number_at (along (home_of slot store) []) store
+
+  file_by : file_of slot store world ≡ then_answer its_number (λ value. file_named (nat_abs value) world)
+  unfolding its_number
+  file_by =
+      ap (λ reference. then_answer (number_at reference store) (λ value. file_named (nat_abs value) world))
+      (sym (no_path (home_of slot store)))
+
+  pub file_stop : (why : Stop) → Answers {T = ℤ} Same (number_at (along (home_of slot store) []) store) (Err why)
+      → Answers {T = ℕ} Same (file_of slot store world) (Err why)
+  unfolding its_number
+  file_stop why is =
+      subst (λ answer. Answers {T = ℕ} Same answer (Err why)) (sym file_by)
+      (then_stops Same Same its_number (λ value. file_named (nat_abs value) world) why is)
+
+  pub file_next : (found : ℤ) (result : Result ℕ Stop)
+      → Answers Same (number_at (along (home_of slot store) []) store) (Ok found)
+      → Answers Same (file_named (nat_abs found) world) result → Answers Same (file_of slot store world) result
+  unfolding its_number
+  file_next found result is answers =
+      subst (λ answer. Answers Same answer result) (sym file_by)
+      (then_answers Same Same its_number (λ value. file_named (nat_abs value) world) found result is
+      (λ value same. subst (λ value. Answers Same (file_named (nat_abs value) world) result) same answers))

@@ -1,5 +1,5 @@
 //! Where variables and their parts are, and what they hold.
-ghost use Rattle.std.specs.Prelude.{◌≡◌, ◌≤◌, ◌-◌, ℕ, List, Option, length, Ok};
+ghost use Rattle.std.specs.Prelude.{◌≡◌, ◌≤◌, ◌-◌, ℕ, List, Option, length, IfOk, ◌<◌, Ok};
 ghost use Rattle.wb_ports.specs.PortState.{PortState};
 ghost use Rattle.pas_typed.specs.Types as types;
 ghost use Rattle.pas_typed.specs.Typed as typed;
@@ -7,13 +7,14 @@ ghost use Rattle.pas_typed.specs.TypedViews.{home_view, mode_view, slot_view, pr
 ghost use Rattle.pas_typed.specs.Lawful.{IsLawfulSlot};
 ghost use Rattle.pas_typed.specs.Shapes.{one_cell};
 ghost use Rattle.pas_meaning.specs.Outcome.{Run, change};
+ghost use Rattle.pas_meaning.specs.Run as meaning;
 ghost use Rattle.pas_meaning.specs.Store as store;
 ghost use Rattle.pas_meaning.specs.Cells.{IsShaped};
 ghost use Rattle.pas_meaning.specs.Standing.{Kinds};
 ghost use Rattle.pas_run.specs.inner.FlatStore.{address_of, number_cell};
 ghost use Rattle.pas_run.specs.inner.MachineState.{IsRun};
 ghost use Rattle.pas_run.specs.inner.Scenes as spec;
-ghost use Rattle.pas_run.specs.inner.Scenes.{IsScene, IsCell, own_address};
+ghost use Rattle.pas_run.specs.inner.Scenes.{IsScene, IsCell, IsFileSlot, own_address};
 ghost use Rattle.pas_run.specs.inner.Doings.{Any, Does, Answers, Same, stored_at};
 
 use crate::cells::{Address, Cell};
@@ -63,6 +64,18 @@ impl<P: Port> Machine<P> {
             result }
     {
         number_in(self.cell(self.home_of(scene, slot), behind))
+    }
+
+    // The number of the file that a variable is.
+    pub(crate) fn file_of(&self, scene: Scene<'_>, slot: Slot) -> Result<usize, Stop>
+        ensures file { (variables : List typed.Variable) (result' : Option types.PasType) (kinds : Kinds)
+            → IsScene scene.entry variables result' kinds
+            → IsFileSlot (program_view scene.entry.program.now) variables (slot_view slot)
+            → (ports : List PortState) (run : Run store.Store) → IsRun kinds ports self.now run
+            → Answers Same (meaning.file_of (slot_view slot) run.store run.world) result }
+        ensures there { IfOk result (λ file. file < length self.now.files) }
+    {
+        self.file_named(self.number_at(scene, slot, 0)?)
     }
 
     // The cell of a variable behind so many of its cells gets a number, or nothing that is defined.

@@ -4,7 +4,7 @@ use Rattle.pas_typed.specs.Types.{PasType, Table}
 use Rattle.pas_typed.specs.Typed as typed
 use Rattle.pas_typed.specs.Typed.{Home, Mode, Variable, Slot, Heading, Body, TypedProgram}
 use Rattle.pas_typed.specs.TypedViews.{program_view}
-use Rattle.pas_typed.specs.Lawful.{IsLawful}
+use Rattle.pas_typed.specs.Lawful.{IsLawful, IsLawfulSlot, IsFile}
 use Rattle.pas_typed.specs.Shapes.{one_cell, Leads, offset, shape_of}
 use Rattle.pas_meaning.specs.Run.{body_of}
 use Rattle.pas_meaning.specs.Standing.{Kind, kind_of, Kinds, Knows}
@@ -82,3 +82,8 @@ home_in mode own cell = own
 pub record IsCell (program : TypedProgram) (slot : Slot) (path : List ℕ) (behind : ℕ) : Type 0 where
   pub leads : Leads (shape_of program.types slot.type) path one_cell
   pub begins : behind ≡ offset (shape_of program.types slot.type) path
+
+-- a variable that is a file
+pub record IsFileSlot (program : TypedProgram) (variables : List Variable) (slot : Slot) : Type 0 where
+  pub slot_is : IsLawfulSlot program variables slot
+  pub file : IsFile program.types slot.type
