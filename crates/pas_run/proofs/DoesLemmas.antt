@@ -14,7 +14,7 @@ use Rattle.pas_run.specs.declared.ends.Stop.{Stop}
 use Rattle.pas_run.specs.declared.ends.Stop.TheVariants as stop
 use Rattle.wb_ports.specs.Counts.{Rose}
 use Rattle.pas_run.specs.inner.MachineState.{KeptFile, MachineState, IsRun, failures_of, CountFailures}
-use Rattle.pas_run.specs.inner.Doings.{Any, IsMoment, StopsBy, Done, Does, Answers}
+use Rattle.pas_run.specs.inner.Doings.{Any, is_failure, is_port_failed, IsMoment, StopsBy, Done, Does, Answers}
 
 -- a moment stays one where the run goes on, and where it began earlier
 onward_end : {A B : Type 0} (outcome : Outcome Store A) (next : A → Doing Store B) → ((value : A) → Goes (next value))
@@ -227,3 +227,11 @@ pub answers_early : {A T : Type 0} (Is : T → A → Type 0) (answer : Answer A)
     → ((found : Stop) × (result ≡ Err found) × (found ≡ why)) → Answers Is answer (Err why) → Answers Is answer result
 answers_early Is answer why result is answers =
     subst (Answers Is answer) (sym (is.1 ∙ ap Err is.2)) answers
+
+-- where no call of a port failed before an early return
+pub quiet_early : {T : Type 0} (found : List KeptFile) (why : Stop) (result : Result T Stop)
+    → ((stopped : Stop) × (result ≡ Err stopped) × (stopped ≡ why)) → is_failure why ≡ false
+    → CountFailures (is_port_failed result) found found
+quiet_early found why result is quiet =
+    subst (λ failed. CountFailures failed found found)
+    (sym (ap is_port_failed (is.1 ∙ ap Err is.2) ∙ quiet)) refl

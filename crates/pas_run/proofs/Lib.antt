@@ -6,3 +6,4 @@ pub mod MachineLemmas
 pub mod SceneLemmas
 pub mod PartLemmas
 pub mod FileLemmas
+pub mod SpotLemmas

@@ -1,12 +1,12 @@
 //! Operators and required functions on numbers (ISO 7185, 6.7.2 and 6.6.6, in this project's profile).
-ghost use Rattle.std.specs.Prelude.{◌≡◌, ℤ, FitsSigned, SomeIff};
+ghost use Rattle.std.specs.Prelude.{◌≡◌, ℤ, false, FitsSigned, SomeIff};
 ghost use Rattle.std.specs.Int.{w64};
 ghost use Rattle.pas_typed.specs.TypeViews.{range_view};
 ghost use Rattle.pas_typed.specs.TypedViews.{function_view};
 ghost use Rattle.pas_meaning.specs.Store as store;
 ghost use Rattle.pas_meaning.specs.Arithmetic as spec;
 ghost use Rattle.pas_meaning.specs.Operands as operands;
-ghost use Rattle.pas_run.specs.inner.Doings.{Answers, Same};
+ghost use Rattle.pas_run.specs.inner.Doings.{Answers, Same, is_port_failed};
 
 use crate::ends::Stop;
 use pas_meaning::{
@@ -19,7 +19,8 @@ use pas_typed::types::{Base, Range};
 
 // A number in a range, or an error of this kind.
 pub(crate) fn in_range(kind: u8, range: Range, number: i32) -> Result<i32, Stop>
-    ensures { Answers Same (store.in_range kind (range_view range) number) result }
+    ensures number { Answers Same (store.in_range kind (range_view range) number) result }
+    ensures quiet { is_port_failed result ≡ false }
 {
     let value = i64::from(number);
     if range.low <= value && value <= range.high {

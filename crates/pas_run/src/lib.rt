@@ -10,6 +10,7 @@ mod lines;
 mod machine;
 mod places;
 mod refusals;
+mod spots;
 
 pub use files::{Ahead, FileState, RunFile, Usage};
 pub use refusals::Refused;

@@ -1,5 +1,5 @@
 //! What a run holds: the activations, its steps and its active calls, and its files.
-ghost use Rattle.std.specs.Prelude.{◌≡◌, ℕ, ◌≤◌, ◌<◌, ◌+◌, ◌-◌, ◌^◌, length, nat_abs, List, IfOk, ⊤};
+ghost use Rattle.std.specs.Prelude.{◌≡◌, ℕ, ◌≤◌, ◌<◌, ◌+◌, ◌-◌, ◌^◌, length, nat_abs, List, IfOk, false};
 ghost use Rattle.pas_meaning.specs.declared.errors.TheConstants.{CALL_LIMIT};
 ghost use Rattle.std.specs.Prelude.{Some};
 ghost use Rattle.pas_meaning.specs.Outcome as run;
@@ -141,6 +141,7 @@ impl<P: Port> Machine<P> {
         ensures named { (ports : List PortState) (world : run.World) → IsWorld ports self.now world
             → Answers Same (steps.file_named (nat_abs number) world) result }
         ensures there { IfOk result (λ file. file < length self.now.files) }
+        ensures quiet { is_port_failed result ≡ false }
     {
         let file = number.unsigned_abs() as usize;
         if file < self.file_count() {

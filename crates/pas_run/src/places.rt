@@ -1,5 +1,5 @@
 //! Where variables and their parts are, and what they hold.
-ghost use Rattle.std.specs.Prelude.{◌≡◌, ◌≤◌, ◌-◌, ℕ, List, Option, length, IfOk, ◌<◌, Ok};
+ghost use Rattle.std.specs.Prelude.{◌≡◌, ◌≤◌, ◌-◌, ℕ, List, Option, length, IfOk, ◌<◌, false, Ok};
 ghost use Rattle.wb_ports.specs.PortState.{PortState};
 ghost use Rattle.pas_typed.specs.Types as types;
 ghost use Rattle.pas_typed.specs.Typed as typed;
@@ -15,7 +15,7 @@ ghost use Rattle.pas_run.specs.inner.FlatStore.{address_of, number_cell};
 ghost use Rattle.pas_run.specs.inner.MachineState.{IsRun};
 ghost use Rattle.pas_run.specs.inner.Scenes as spec;
 ghost use Rattle.pas_run.specs.inner.Scenes.{IsScene, IsCell, IsFileSlot, own_address};
-ghost use Rattle.pas_run.specs.inner.Doings.{Any, Does, Answers, Same, stored_at};
+ghost use Rattle.pas_run.specs.inner.Doings.{Any, Does, Answers, Same, stored_at, is_port_failed};
 
 use crate::cells::{Address, Cell};
 use crate::ends::Stop;
@@ -55,13 +55,14 @@ impl<P: Port> Machine<P> {
 
     // The number that the cell of a variable holds behind so many of its cells.
     pub(crate) fn number_at(&self, scene: Scene<'_>, slot: Slot, behind: u32) -> Result<i32, Stop>
-        ensures { (variables : List typed.Variable) (result' : Option types.PasType) (kinds : Kinds)
+        ensures number { (variables : List typed.Variable) (result' : Option types.PasType) (kinds : Kinds)
             → IsScene scene.entry variables result' kinds
             → IsLawfulSlot (program_view scene.entry.program.now) variables (slot_view slot)
             → (path : List ℕ) → IsCell (program_view scene.entry.program.now) (slot_view slot) path behind
             → (ports : List PortState) (run : Run store.Store) → IsRun kinds ports self.now run
             → Answers Same (store.number_at (store.along (store.home_of (slot_view slot) run.store) path) run.store)
             result }
+        ensures quiet { is_port_failed result ≡ false }
     {
         number_in(self.cell(self.home_of(scene, slot), behind))
     }
@@ -74,6 +75,7 @@ impl<P: Port> Machine<P> {
             → (ports : List PortState) (run : Run store.Store) → IsRun kinds ports self.now run
             → Answers Same (meaning.file_of (slot_view slot) run.store run.world) result }
         ensures there { IfOk result (λ file. file < length self.now.files) }
+        ensures quiet { is_port_failed result ≡ false }
     {
         self.file_named(self.number_at(scene, slot, 0)?)
     }
@@ -105,8 +107,9 @@ fn cell_of(number: Option<i32>) -> Cell
 
 // The number that a cell of a variable holds.
 fn number_in(cell: Cell) -> Result<i32, Stop>
-    ensures { (datum : store.Datum) → cell ≡ number_cell (store.number_in datum)
+    ensures number { (datum : store.Datum) → cell ≡ number_cell (store.number_in datum)
         → Answers Same (store.number_of datum) result }
+    ensures quiet { is_port_failed result ≡ false }
 {
     match cell {
         Cell::Holds(number) => Ok(number),

@@ -26,9 +26,13 @@ stopped (Ok value) = Ok value
 stopped (Err refused) = Err (stop_by refused)
 
 -- whether a run stops since a call of a port failed
+abbrev pub is_failure : Stop → Bool
+is_failure stop.PortFailed = true
+is_failure why = false
+
 abbrev pub is_port_failed : {T : Type 0} → Result T Stop → Bool
-is_port_failed (Err stop.PortFailed) = true
-is_port_failed result = false
+is_port_failed (Ok value) = false
+is_port_failed (Err why) = is_failure why
 
 -- the ports tell what the files held at a moment between a world and a later one
 pub record IsMoment (files : List KeptFile) (before later : World) : Type 0 where

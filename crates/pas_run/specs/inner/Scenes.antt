@@ -3,10 +3,11 @@ use Rattle.std.specs.Prelude.{◌≡◌, ℕ, ◌-◌, ◌<◌, List, [], ◌++�
 use Rattle.pas_typed.specs.Types.{PasType, Table}
 use Rattle.pas_typed.specs.Typed as typed
 use Rattle.pas_typed.specs.Typed.{Home, Mode, Variable, Slot, Heading, Body, TypedProgram}
-use Rattle.pas_typed.specs.TypedViews.{program_view}
-use Rattle.pas_typed.specs.Lawful.{IsLawful, IsLawfulSlot, IsFile}
+use Rattle.pas_typed.specs.TypeViews.{type_view}
+use Rattle.pas_typed.specs.TypedViews.{slot_view, program_view}
+use Rattle.pas_typed.specs.Lawful.{IsOrdinal, IsLawful, IsLawfulSlot, IsFile}
 use Rattle.pas_typed.specs.Shapes.{one_cell, Leads, offset, shape_of}
-use Rattle.pas_meaning.specs.Run.{body_of}
+use Rattle.pas_meaning.specs.Run.{body_of, Spot, part, window}
 use Rattle.pas_meaning.specs.Standing.{Kind, kind_of, Kinds, Knows}
 use Rattle.pas_run.specs.declared.cells.Address.{Address}
 use Rattle.pas_run.specs.declared.cells.Cell.{Cell}
@@ -14,6 +15,8 @@ use Rattle.pas_run.specs.declared.cells.Cell.TheVariants.{Refers}
 use Rattle.pas_run.specs.declared.layouts.Layout.{Layout}
 use Rattle.pas_run.specs.declared.layouts.Layouts.{Layouts}
 use Rattle.pas_run.specs.declared.layouts.Scene.{Scene}
+use Rattle.pas_run.specs.declared.spots.Spot.{Spot as CodeSpot}
+use Rattle.pas_run.specs.declared.spots.Spot.TheVariants as code
 use Rattle.pas_run.specs.inner.FlatStore.{cells_before}
 
 -- the layout of variables: how many cells stand before each, and how many they have
@@ -87,3 +90,14 @@ pub record IsCell (program : TypedProgram) (slot : Slot) (path : List ℕ) (behi
 pub record IsFileSlot (program : TypedProgram) (variables : List Variable) (slot : Slot) : Type 0 where
   pub slot_is : IsLawfulSlot program variables slot
   pub file : IsFile program.types slot.type
+
+-- a place of an ordinal type with its checked indexes, as the code has it: a cell of a variable, or the buffer of a file
+abbrev pub IsSpot : (program : TypedProgram) → List Variable → PasType → CodeSpot → Spot → Type 0
+IsSpot program variables type (code.Part found behind) (part slot path) =
+    (slot_view found ≡ slot) × IsLawfulSlot program variables slot × IsOrdinal program.types type
+    × Leads (shape_of program.types slot.type) path (shape_of program.types type)
+    × (behind ≡ offset (shape_of program.types slot.type) path)
+IsSpot program variables type (code.Window found of_code) (window slot of_component) =
+    (slot_view found ≡ slot) × IsFileSlot program variables slot × IsOrdinal program.types type
+    × (type_view of_code ≡ of_component) × (of_component ≡ type)
+IsSpot program variables type spot place = ⊥

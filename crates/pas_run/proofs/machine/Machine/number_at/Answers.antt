@@ -5,9 +5,9 @@ use Rattle.pas_run.specs.inner.FlatStore.{cell_in, behind_by}
 use Rattle.pas_run.proofs.PartLemmas.{part_number}
 use Rattle.pas_run.proofs.machine.Machine.number_at.Goals as goal
 
-pub returns : goal.returns
-returns g c variables result kinds at is path leads ports run stands =
-    c.number_in.ensures _
+pub returns-clause-number : goal.returns-clause-number
+returns-clause-number g c variables result kinds at is path leads ports run stands =
+    c.number_in.ensures.number _
     (c.cell.ensures
     ∙ ap₂ (λ (behind : _) (address : Address). cell_in (behind_by behind address) c.args.self.now.activations)
     leads.begins (c.home_of.ensures variables result kinds at is ports run stands)
