@@ -1,12 +1,12 @@
 -- What a machine does, one thing behind another.
-use Rattle.std.proofs.Common.{◌≡◌, ◌≤◌, ℕ, arith, List, refl, sym, ap, ◌∙◌, subst, Result, Ok, Err}
+use Rattle.std.proofs.Common.{◌≡◌, ℕ, arith, List, refl, sym, ap, ◌∙◌, subst, Result, Ok, Err}
 use Rattle.std.proofs.Common.{◌+◌, suc, Bool, true, false, length, slice_index_or}
 use Rattle.std.proofs.lemmas.List.{length-map}
 use Rattle.wb_ports.specs.PortState.{PortState}
 use Rattle.pas_meaning.specs.Answers.{Answer, fine, wrong, then_answer}
-use Rattle.pas_meaning.specs.Outcome.{World, Run, Outcome, gives, ends, errs, Doing, halted, going, too_deep, pure}
+use Rattle.pas_meaning.specs.Outcome.{World, Run, Outcome, gives, ends, errs, Doing, pure}
 use Rattle.pas_meaning.specs.Outcome.{and_then, ◌>>=◌, ◌>>◌, answered, ask, take_step}
-use Rattle.pas_meaning.specs.Store.{Datum, Store}
+use Rattle.pas_meaning.specs.Store.{Store}
 use Rattle.pas_meaning.specs.Standing.{Kinds}
 use Rattle.pas_meaning.specs.Laws.{Extends, Onward, Goes, world_of}
 use Rattle.pas_meaning.proofs.OnwardLemmas.{extends_on, goes_step}
@@ -105,7 +105,8 @@ module _ {A B T U : Type 0} (most : ℕ) (kinds middle later : Kinds) (Is : T �
   }
 
 -- what takes nothing of the machine: a value, and an answer
-pub does_pure : {A T : Type 0} (most : ℕ) (kinds : Kinds) (Is : T → A → Type 0) (found : T) (value : A) (machine : MachineState)
+pub does_pure : {A T : Type 0} (most : ℕ) (kinds : Kinds) (Is : T → A → Type 0) (found : T) (value : A)
+    (machine : MachineState)
     → Is found value → Does most kinds kinds Is (pure value) machine machine (Ok found)
 does_pure most kinds Is found value machine is = record {
   each = λ ports run stands within. record { value = value; run = run; same = refl; is = is; stands = stands };

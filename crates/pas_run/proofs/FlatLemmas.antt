@@ -1,12 +1,10 @@
 -- Activations in flat cells: what stands at a reference is a slice of them, and storing there changes that slice.
 use Rattle.std.proofs.Common.{◌≡◌, ℕ, zero, suc, ◌+◌, ◌<◌, ◌≤◌, List, [], ◌∷◌, ◌++◌, length, map, take, drop}
-use Rattle.std.proofs.Common.{ℤ, Option, Some, None, slice_get, slice_set, slice_index_or, arith, refl, sym, ap, ap₂}
-use Rattle.std.proofs.Common.{◌∙◌, subst, append_assoc, append-nil, length-append, get_or-set_same}
+use Rattle.std.proofs.Common.{ℤ, Option, Some, slice_get, slice_set, slice_index_or, arith, refl, sym, ap, ap₂}
+use Rattle.std.proofs.Common.{◌∙◌, append_assoc, length-append}
 use Rattle.std.proofs.lemmas.List.{take_at, drop_at, get_or_at, set_at, map-append, length-map, map-set, get_or-map}
 use Rattle.std.proofs.lemmas.List.{take-map, get_or_append_left}
-use Rattle.std.proofs.lemmas.Option.{slice_get_within, same_Some}
-use Rattle.std.specs.Prelude.{⊤}
-use Rattle.pas_typed.specs.Shapes.{Shape, one_cell, size, Leads, offset}
+use Rattle.pas_typed.specs.Shapes.{Shape, one_cell, size, offset}
 use Rattle.pas_meaning.specs.Store as pascal
 use Rattle.pas_meaning.specs.Store.{Datum, undefined, own, refers, Reference, Store, cell_at, held_by, number_in}
 use Rattle.pas_meaning.specs.Store.{part_at, with_part_at, fetched, stored, opened, closed, top_of, followed}
@@ -127,7 +125,8 @@ module _ (kinds : Kinds) (store : Store) (reference : Reference) (shape : Shape)
   variable_there : VariableStands kinds its_row reference.variable
       (cells_before (slice_index_or kinds reference.activation []) reference.variable)
   variable_there =
-      variable_stands kinds reference.activation (slice_index_or kinds reference.activation []) its_row reference.variable
+      variable_stands kinds reference.activation (slice_index_or kinds reference.activation []) its_row
+      reference.variable
       (plain aims.root) (row_matches kinds store reference.activation stands) aims.there
 
   part_there : StandsAt (held_by its_cell) reference.path (offset aims.root reference.path)
@@ -180,7 +179,8 @@ module _ (kinds : Kinds) (store : Store) (reference : Reference) (shape : Shape)
   pub address_there : address.activation < length (flat_store kinds store)
   address_there = omega (arith, length-map store (flat_row kinds), row_there)
 
-  pub address_within : address.offset + size shape ≤ length (slice_index_or (flat_store kinds store) address.activation [])
+  pub address_within : address.offset + size shape
+      ≤ length (slice_index_or (flat_store kinds store) address.activation [])
   address_within =
       omega (
         arith,
