@@ -6,3 +6,9 @@ pub mod LabelViews
 pub mod LabelAnswers
 pub mod Constants
 pub mod TypeAnswers
+pub mod Arguments
+pub mod ExpressionAnswers
+pub mod NameAnswers
+pub mod FormAnswers
+pub mod Declared
+pub mod Transfers
