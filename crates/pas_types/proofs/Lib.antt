@@ -19,3 +19,4 @@ pub mod NumberLemmas
 pub mod ConstantLemmas
 pub mod SubrangeLemmas
 pub mod TypePartLemmas
+pub mod FirstLemmas

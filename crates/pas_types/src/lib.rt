@@ -2,6 +2,7 @@
 #![tactic(auto)]
 
 mod constants;
+mod functions;
 mod judged;
 mod labels;
 mod limits;

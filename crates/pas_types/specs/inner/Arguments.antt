@@ -1,0 +1,45 @@
+-- What functions that check the arguments of a call answer.
+use Rattle.std.specs.Prelude.{◌≡◌, ℕ, List, [], ◌∷◌, Option, Some, None}
+use Rattle.wb_base.specs.declared.faults.TheConstants.{UNKNOWN_NAME, WRONG_TYPE}
+use Rattle.pas_tokens.specs.Cutting.{Wrong, wrong}
+use Rattle.pas_syntax.specs.Words.{Word}
+use Rattle.pas_typed.specs.Types.{Table}
+use Rattle.pas_typed.specs.Typed.{Variable, Value, Passed}
+use Rattle.pas_types.specs.declared.stop.Stop.{Stop}
+use Rattle.pas_types.specs.Marks.{at_first, lowest, Judged, judged, known}
+use Rattle.pas_types.specs.Scopes.{Entity}
+use Rattle.pas_types.specs.Expressions.{Demand, Given, met, asked_nothing, demand_of_mode, passed_by}
+use Rattle.pas_types.specs.inner.Stopping.{shown_in}
+
+-- what the first word of a part shows, where the part is one too many
+abbrev pub ShowsFirst : List Word → List (List Wrong) → Stop → Type 0
+ShowsFirst (word ∷ words) (faults ∷ tokens) why =
+    why ≡ shown_in word.token.line (lowest (wrong WRONG_TYPE) faults)
+ShowsFirst words tokens why = ⊥
+
+-- what a name shows at the first word of a part that is one too many
+abbrev pub first_name_shows : ℕ → Option Entity → Stop
+first_name_shows line None = shown_in line (wrong UNKNOWN_NAME)
+first_name_shows line (Some entity) = shown_in line (wrong WRONG_TYPE)
+
+-- what takes an argument: the demand on its value, and what is made of that
+pub record Taker (B : Type 0) : Type 0 where
+  pub demand : Demand
+  pub make : Value → B
+
+-- an argument by what takes it, if something does. One too many shows it at its first token
+abbrev pub taken_by : {B : Type 0} → Option (Taker B) → Given → Judged B
+taken_by None argument = judged (at_first (wrong WRONG_TYPE ∷ []) (met asked_nothing argument).marks) None
+taken_by (Some taker) argument =
+    let found = met taker.demand argument in judged found.marks (known taker.make found.value)
+
+-- a parameter of a routine takes an argument as it is passed
+abbrev pub passing : Table → Variable → Taker (Passed → Passed)
+passing table parameter = record {
+  demand = demand_of_mode table parameter.mode parameter.type;
+  make = passed_by parameter.mode parameter.type;
+}
+
+-- a value as it is
+abbrev pub plainly : Demand → Taker Value
+plainly demand = record { demand = demand; make = λ value. value }
