@@ -19,3 +19,5 @@ pub mod NumberLemmas
 pub mod ConstantLemmas
 pub mod SubrangeLemmas
 pub mod TypePartLemmas
+pub mod ExpressionWords
+pub mod OperatorLemmas

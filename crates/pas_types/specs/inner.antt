@@ -6,3 +6,4 @@ pub mod LabelViews
 pub mod LabelAnswers
 pub mod Constants
 pub mod TypeAnswers
+pub mod ExpressionAnswers
