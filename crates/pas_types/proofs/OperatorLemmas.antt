@@ -6,7 +6,7 @@ use Rattle.pas_tokens.specs.Cutting.{Wrong, wrong}
 use Rattle.pas_syntax.specs.Words.{Word}
 use Rattle.pas_types.specs.declared.stop.Stop.{Stop}
 use Rattle.pas_types.specs.declared.judged.Judged.{Judged as CodeJudged}
-use Rattle.pas_types.specs.Marks.{Judged, noted, unless}
+use Rattle.pas_types.specs.Marks.{quiet, joined, Judged, judged, known, noted, unless}
 use Rattle.pas_types.specs.inner.Ends.{Ends}
 use Rattle.pas_types.specs.inner.Stopping.{found_before}
 use Rattle.pas_types.specs.inner.Answers.{Ending, noted_end, settled_by, end_in, EndsAs, StopsBy, Answers}
@@ -14,7 +14,7 @@ use Rattle.pas_types.proofs.AsMany.{AsMany, noted_many}
 use Rattle.pas_types.proofs.EndLemmas.{end_many}
 use Rattle.pas_types.proofs.PartLemmas.{pair}
 use Rattle.pas_types.proofs.AnswerLemmas.{noted_stops_by, noted_ends, noted_found, pair_stops, pair_unsettled}
-use Rattle.pas_types.proofs.AnswerLemmas.{pair_second, pair_ends_as, before_ends, ends_moved}
+use Rattle.pas_types.proofs.AnswerLemmas.{pair_second, pair_ends_as, before_ends, behind_word_ends}
 
 -- a part that ends shows as many lists of faults as it has words
 pub ends_many : {A : Type 0} (words : List Word) (part : Judged A) (value : A) (end : Ending)
@@ -82,3 +82,19 @@ module _ {A B C : Type 0} (words more : List Word) (word : Word) (make : A → B
       subst (λ (item : C). EndsAs (words ++ word ∷ more) (pair make first second) item (end_in next.end)) (sym is)
       (pair_ends_as words more word make first second (ends_many more second (view next.value) (end_in next.end) behind)
       value line (view next.value) (end_in next.end) h behind)
+
+-- one operand behind an operator
+module _ {A B : Type 0} (words : List Word) (word : Word) (make : A → B) (demand : A → List Wrong) (part : Judged A) where
+  pub operand_ends : {X : Type 0} (view : X → A) (found next : CodeJudged X) (holds : Bool) (code : ℕ) (whole : B)
+      → demand (view found.value) ≡ unless holds (wrong code) → next.value ≡ found.value
+      → end_in next.end ≡ noted_end holds code (end_in found.end) → whole ≡ make (view next.value)
+      → EndsAs words part (view found.value) (end_in found.end)
+      → EndsAs (word ∷ words)
+      (judged (joined (quiet ∷ (noted demand part).marks ∷ [])) (known make (noted demand part).value)) whole
+      (end_in next.end)
+  operand_ends view found next holds code whole fine same end is h =
+      subst (λ (item : B). EndsAs (word ∷ words)
+      (judged (joined (quiet ∷ (noted demand part).marks ∷ [])) (known make (noted demand part).value)) item
+      (end_in next.end)) (sym is)
+      (behind_word_ends words word make (noted demand part) (view next.value) (end_in next.end)
+      (noted_found words demand part view found next holds code fine same end h))
