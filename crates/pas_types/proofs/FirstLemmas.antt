@@ -59,11 +59,17 @@ first_last (word ∷ words) (last ∷ []) faults why mild h =
     h ∙ ap (shown_in word.token.line) (sym same)
 first_last (word ∷ words) (first ∷ (second ∷ more)) faults why mild h = h
 
-pub first_front : (words more : List Word) (tokens next : List (List Wrong)) (why : Stop)
-    → ShowsFirst words tokens why → ShowsFirst (words ++ more) (tokens ++ next) why
-first_front [] more tokens next why h = absurd h
-first_front (word ∷ words) more [] next why h = absurd h
-first_front (word ∷ words) more (faults ∷ tokens) next why h = h
+pub first_words : (words more : List Word) (tokens : List (List Wrong)) (why : Stop) → ShowsFirst words tokens why
+    → ShowsFirst (words ++ more) tokens why
+first_words [] more tokens why h = absurd h
+first_words (word ∷ words) more [] why h = absurd h
+first_words (word ∷ words) more (faults ∷ tokens) why h = h
+
+pub first_tokens : (words : List Word) (tokens next : List (List Wrong)) (why : Stop) → ShowsFirst words tokens why
+    → ShowsFirst words (tokens ++ next) why
+first_tokens [] tokens next why h = absurd h
+first_tokens (word ∷ words) [] next why h = absurd h
+first_tokens (word ∷ words) (faults ∷ tokens) next why h = h
 
 -- demands on a part
 module _ {A : Type 0} (words : List Word) (demand : A → List Wrong) (part : Judged A) (why : Stop)

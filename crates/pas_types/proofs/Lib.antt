@@ -20,3 +20,7 @@ pub mod ConstantLemmas
 pub mod SubrangeLemmas
 pub mod TypePartLemmas
 pub mod FirstLemmas
+pub mod ExpressionWords
+pub mod OperatorLemmas
+pub mod FirstWords
+pub mod ExprSeen

@@ -7,3 +7,4 @@ pub mod LabelAnswers
 pub mod Constants
 pub mod TypeAnswers
 pub mod Arguments
+pub mod ExpressionAnswers

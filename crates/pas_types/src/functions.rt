@@ -1,23 +1,171 @@
 //! Calls of functions (ISO 7185, 6.7.3, in this project's profile).
-ghost use Rattle.std.specs.Prelude.{◌≡◌, ◌∷◌, [], ℕ};
-ghost use Rattle.pas_syntax.specs.Views.{ident_in, quoted_in, expr_in, sum_in, term_in, factor_in};
-ghost use Rattle.pas_syntax.specs.Words.{text_at, expr_words, sum_words, term_words, factor_words};
-ghost use Rattle.pas_types.specs.Scopes as spec;
-ghost use Rattle.pas_types.specs.Expressions as spec_of;
+ghost use Rattle.std.specs.Prelude.{◌≡◌, ◌∷◌, [], ℕ, List, is_some, codes, option_map};
+ghost use Rattle.std.specs.Option.{option_copied};
+ghost use Rattle.wb_base.specs.declared.faults.TheConstants.{WRONG_TYPE as WRONG_TYPE_CODE};
+ghost use Rattle.pas_tokens.specs.Cutting.{wrong};
+ghost use Rattle.pas_syntax.specs.Views.{ident_in, quoted_in, expr_in, sum_in, term_in, factor_in, call_in};
+ghost use Rattle.pas_syntax.specs.Words.{Word, name_at, text_at, expr_words, sum_words, term_words, factor_words};
+ghost use Rattle.pas_typed.specs.Types.{Table as SpecTable};
+ghost use Rattle.pas_typed.specs.Typed as typed;
+ghost use Rattle.pas_typed.specs.Typed.{Value as SpecValue};
+ghost use Rattle.pas_typed.specs.TypeOf.{type_of_function};
+ghost use Rattle.pas_typed.specs.TypedViews.{value_view, place_view, function_view, file_test_view, variable_view};
+ghost use Rattle.pas_types.specs.Marks.{at_first, checked, Judged as SpecJudged};
+ghost use Rattle.pas_types.specs.Scopes.{standard_file, entity_of};
+ghost use Rattle.pas_types.specs.Expressions as spec;
+ghost use Rattle.pas_types.specs.ScopeViews.{scopes_view, IsClear};
+ghost use Rattle.pas_types.specs.inner.Answers.{end_in, EndsAs, Answers, FailsBy};
+ghost use Rattle.pas_types.specs.inner.ExpressionAnswers.{SettlesBefore, Passes};
 ghost use Rattle.pas_types.specs.TypeForms.{char_in, undoubled};
-ghost use Rattle.pas_types.specs.ScopeViews.{scopes_view};
 ghost use Rattle.pas_types.specs.inner.Arguments.{ShowsFirst, first_name_shows};
 
 use crate::constants::single_byte;
+use crate::judged::{End, Judged};
 use crate::scopes::Scopes;
 use crate::stop::{Stop, fault, left_out};
-use pas_syntax::tree::{Expr, Factor, Ident, Quoted, Sum, Term};
-use wb_base::faults::{STRINGS_OUTSIDE_WRITE, UNKNOWN_NAME, WRONG_TYPE};
+use crate::variables::whole;
+use pas_syntax::tree::{Expr, Factor, FunctionCall, Ident, Quoted, Sum, Term};
+use pas_typed::typed::{Call, FileTest, Function, Heading, Passed, Place, Value, Variable};
+use pas_typed::types::Base;
+use sqlite_items::{Boxed, Items};
+use wb_base::faults::{FILE_RULE, STRINGS_OUTSIDE_WRITE, UNKNOWN_NAME, WRONG_TYPE};
+
+// What the name of a routine means as a value: the call of a function that takes no arguments. One that takes some
+// shows it at the token behind, and stays known by its type.
+pub(crate) fn function_alone(
+    scopes: &Scopes<'_>,
+    ident: Ident,
+    number: u32,
+) -> Result<Judged<Value>, Stop>
+    ensures { (n : ℕ) → Answers (name_at n (ident_in scopes.now.spellings.now ident) ∷ [])
+        (spec.function_alone number (spec.heading_of (scopes_view scopes.now) number)) value_view result }
+{
+    match scopes.heading_of(number) {
+        Some(
+            Heading {
+                result: Some(pas_type),
+                parameters,
+                ..
+            },
+        ) => {
+            let call = Call {
+                routine: number,
+                pas_type: *pas_type,
+                passed: Items::new(scopes.alloc),
+            };
+            let end = End::lawful(ident.line);
+            Ok(Judged {
+                value: Value::Call(Boxed::new(scopes.alloc, call)?),
+                end: if parameters.is_empty() {
+                    end
+                } else {
+                    end.short()
+                },
+            })
+        }
+        _ => Err(fault(WRONG_TYPE, ident.line)),
+    }
+}
+
+// What the name of a required function in this line means, which shows at the token behind that its argument is
+// missing.
+pub(crate) fn missing_arguments(function: Function, line: u32) -> Judged<Value>
+    ensures { (word : Word) (table : SpecTable) → word.token.line ≡ line → EndsAs (word ∷ [])
+        (spec.missing_arguments (spec.any_of table (type_of_function (function_view function))))
+        (value_view result.value) (end_in result.end) }
+{
+    let base = match function {
+        Function::Ord | Function::Abs => Base::Integer,
+        Function::Chr => Base::Char,
+        Function::Odd => Base::Boolean,
+    };
+    Judged {
+        value: Value::Constant(base, 0),
+        end: End::lawful(line).short(),
+    }
+}
+
+// What a question to `input` means. Where that is no parameter of the program, it stays known as a boolean.
+pub(crate) fn test_alone(
+    scopes: &Scopes<'_>,
+    ident: Ident,
+    test: FileTest,
+) -> Result<Judged<Value>, Stop>
+    ensures { (n : ℕ) → Answers (name_at n (ident_in scopes.now.spellings.now ident) ∷ [])
+        (spec.test_alone (file_test_view test) (standard_file (scopes_view scopes.now) (codes "input"))) value_view
+        result }
+{
+    match scopes.standard_file(b"input") {
+        Some(slot) => {
+            let file = Boxed::new(scopes.alloc, whole(scopes, slot))?;
+            Ok(Judged::lawful(Value::Tested(test, file), ident.line))
+        }
+        None => {
+            let unknown = Judged::lawful(Value::Constant(Base::Boolean, 0), ident.line);
+            Ok(unknown.noted(false, FILE_RULE))
+        }
+    }
+}
+
+// What the call of a function with arguments means.
+pub(crate) fn called(scopes: &Scopes<'_>, call: &FunctionCall) -> Result<Judged<Value>, Stop>
+    ensures { IsClear (scopes_view scopes.now) → (lead deep : ℕ)
+        → Answers (factor_words lead deep (call_in scopes.now.spellings.now call.now))
+        (spec.factor_of (scopes_view scopes.now) (call_in scopes.now.spellings.now call.now)) value_view result }
+{
+    Err(Stop::OutOfMemory)
+}
+
+// An argument as it is passed to a parameter, if there is one. One too many shows it at its first token.
+pub(crate) fn argument_of(
+    scopes: &Scopes<'_>,
+    parameter: Option<&Variable>,
+    expr: &Expr,
+) -> Result<Judged<Passed>, Stop>
+    ensures { IsClear (scopes_view scopes.now) → (lead deep : ℕ)
+        → Passes (expr_words lead deep (expr_in scopes.now.spellings.now expr.now)) (scopes_view scopes.now).outer.types
+        (option_map (variable_view scopes.now.spellings.now) (option_copied parameter.entry))
+        (spec.value_of (scopes_view scopes.now) (expr_in scopes.now.spellings.now expr.now)) result }
+{
+    Err(Stop::OutOfMemory)
+}
+
+// Whether a value is a file.
+pub(crate) fn is_file(scopes: &Scopes<'_>, value: &Value) -> bool
+    ensures { result ≡ is_some (spec.file_in (scopes_view scopes.now).outer.types (value_view value.now)) }
+{
+    match value {
+        Value::Read(place) => scopes.types.is_file(place.get().pas_type()),
+        _ => false,
+    }
+}
+
+// The file that a value is, where the token behind it stands in this line.
+pub(crate) fn file_only(
+    scopes: &Scopes<'_>,
+    found: Judged<Value>,
+    behind: u32,
+) -> Result<Boxed<Place>, Stop>
+    ensures { (words : List Word) (part : SpecJudged SpecValue)
+        → EndsAs words part (value_view found.value) (end_in found.end)
+        → SettlesBefore behind words (checked (spec.file_only (scopes_view scopes.now).outer.types) part)
+        (λ place. typed.read (place_view place)) result }
+{
+    let line = found.end.line;
+    let is_fit = is_file(scopes, &found.value);
+    match found.noted(is_fit, WRONG_TYPE).before(behind)? {
+        Value::Read(place) => Ok(place),
+        _ => Err(fault(WRONG_TYPE, line)),
+    }
+}
 
 // Why an expression is refused that is one too many: its first token shows it, unless it shows a lower fault.
 pub(crate) fn one_too_many(scopes: &Scopes<'_>, expr: &Expr) -> Stop
-    ensures { (lead deep : ℕ) → ShowsFirst (expr_words lead deep (expr_in scopes.now.spellings.now expr.now))
-        (spec_of.value_of (scopes_view scopes.now) (expr_in scopes.now.spellings.now expr.now)).marks.tokens result }
+    ensures fails { (lead deep : ℕ) → FailsBy (expr_words lead deep (expr_in scopes.now.spellings.now expr.now))
+        (at_first (wrong WRONG_TYPE_CODE ∷ [])
+        (spec.value_of (scopes_view scopes.now) (expr_in scopes.now.spellings.now expr.now)).marks) result }
+    ensures first { (lead deep : ℕ) → ShowsFirst (expr_words lead deep (expr_in scopes.now.spellings.now expr.now))
+        (spec.value_of (scopes_view scopes.now) (expr_in scopes.now.spellings.now expr.now)).marks.tokens result }
 {
     match expr {
         Expr::Sum(sum) => first_of_sum(scopes, sum),
@@ -28,7 +176,7 @@ pub(crate) fn one_too_many(scopes: &Scopes<'_>, expr: &Expr) -> Stop
 // The same of a sum.
 fn first_of_sum(scopes: &Scopes<'_>, sum: &Sum) -> Stop
     ensures { (lead deep : ℕ) → ShowsFirst (sum_words lead deep (sum_in scopes.now.spellings.now sum.now))
-        (spec_of.sum_of (scopes_view scopes.now) (sum_in scopes.now.spellings.now sum.now)).marks.tokens result }
+        (spec.sum_of (scopes_view scopes.now) (sum_in scopes.now.spellings.now sum.now)).marks.tokens result }
 {
     match sum {
         Sum::FirstTerm(term) => first_of_term(scopes, term),
@@ -40,7 +188,7 @@ fn first_of_sum(scopes: &Scopes<'_>, sum: &Sum) -> Stop
 // The same of a term.
 fn first_of_term(scopes: &Scopes<'_>, term: &Term) -> Stop
     ensures { (lead deep : ℕ) → ShowsFirst (term_words lead deep (term_in scopes.now.spellings.now term.now))
-        (spec_of.term_of (scopes_view scopes.now) (term_in scopes.now.spellings.now term.now)).marks.tokens result }
+        (spec.term_of (scopes_view scopes.now) (term_in scopes.now.spellings.now term.now)).marks.tokens result }
 {
     match term {
         Term::FirstFactor(factor) => first_of_factor(scopes, factor),
@@ -51,13 +199,14 @@ fn first_of_term(scopes: &Scopes<'_>, term: &Term) -> Stop
 // The same of a factor.
 fn first_of_factor(scopes: &Scopes<'_>, factor: &Factor) -> Stop
     ensures { (lead deep : ℕ) → ShowsFirst (factor_words lead deep (factor_in scopes.now.spellings.now factor.now))
-        (spec_of.factor_of (scopes_view scopes.now) (factor_in scopes.now.spellings.now factor.now)).marks.tokens
+        (spec.factor_of (scopes_view scopes.now) (factor_in scopes.now.spellings.now factor.now)).marks.tokens
         result }
 {
     match factor {
         Factor::Literal(numeral) => fault(WRONG_TYPE, numeral.line),
         Factor::Text(quoted) => first_of_text(scopes, *quoted),
-        Factor::Parenthesized(line, _, _) | Factor::Negated(line, _) => fault(WRONG_TYPE, *line),
+        Factor::Parenthesized(line, _, _) => fault(WRONG_TYPE, *line),
+        Factor::Negated(line, _) => fault(WRONG_TYPE, *line),
         Factor::Variable(variable) => first_of_name(scopes, variable.get().name),
         Factor::Call(call) => first_of_name(scopes, call.get().name),
     }
@@ -77,7 +226,7 @@ fn first_of_text(scopes: &Scopes<'_>, quoted: Quoted) -> Stop
 // The same of a name.
 fn first_of_name(scopes: &Scopes<'_>, ident: Ident) -> Stop
     ensures { result ≡ first_name_shows ident.line
-        (spec.entity_of (scopes_view scopes.now) (ident_in scopes.now.spellings.now ident).name) }
+        (entity_of (scopes_view scopes.now) (ident_in scopes.now.spellings.now ident).name) }
 {
     match scopes.named(ident) {
         Some(_) => fault(WRONG_TYPE, ident.line),

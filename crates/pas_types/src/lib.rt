@@ -2,6 +2,7 @@
 #![tactic(auto)]
 
 mod constants;
+mod expressions;
 mod functions;
 mod judged;
 mod labels;
@@ -12,5 +13,6 @@ mod scopes;
 mod simple_types;
 mod stop;
 mod type_forms;
+mod variables;
 
 pub use limits::{CELL_LIMIT, GREATEST_LABEL, ROUTINE_CELL_LIMIT, ROUTINE_LIMIT};
