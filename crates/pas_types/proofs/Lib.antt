@@ -24,3 +24,6 @@ pub mod ExpressionWords
 pub mod OperatorLemmas
 pub mod FirstWords
 pub mod ExprSeen
+pub mod ListedLemmas
+pub mod ArgumentLemmas
+pub mod ExprArguments

@@ -1,32 +1,39 @@
 //! Calls of functions (ISO 7185, 6.7.3, in this project's profile).
-ghost use Rattle.std.specs.Prelude.{◌≡◌, ◌∷◌, [], ℕ, List, is_some, codes, option_map};
+ghost use Rattle.std.specs.Prelude.{◌≡◌, ◌∷◌, [], ℕ, ◌+◌, List, map, Some, is_some, codes, option_map};
 ghost use Rattle.std.specs.Option.{option_copied};
 ghost use Rattle.wb_base.specs.declared.faults.TheConstants.{WRONG_TYPE as WRONG_TYPE_CODE};
 ghost use Rattle.pas_tokens.specs.Cutting.{wrong};
-ghost use Rattle.pas_syntax.specs.Views.{ident_in, quoted_in, expr_in, sum_in, term_in, factor_in, call_in};
+ghost use Rattle.pas_syntax.specs.Views.{ident_in, quoted_in, expr_in, sum_in, term_in, factor_in, call_in, exprs_in};
+ghost use Rattle.pas_syntax.specs.Tree as tree;
+ghost use Rattle.pas_syntax.specs.declared.tree.Expr.TheViews.{out-Exprs};
 ghost use Rattle.pas_syntax.specs.Words.{Word, name_at, text_at, expr_words, sum_words, term_words, factor_words};
 ghost use Rattle.pas_typed.specs.Types.{Table as SpecTable};
 ghost use Rattle.pas_typed.specs.Typed as typed;
 ghost use Rattle.pas_typed.specs.Typed.{Value as SpecValue};
-ghost use Rattle.pas_typed.specs.TypeOf.{type_of_function};
-ghost use Rattle.pas_typed.specs.TypedViews.{value_view, place_view, function_view, file_test_view, variable_view};
-ghost use Rattle.pas_types.specs.Marks.{at_first, checked, Judged as SpecJudged};
-ghost use Rattle.pas_types.specs.Scopes.{standard_file, entity_of};
+ghost use Rattle.pas_typed.specs.TypeOf.{type_of, type_of_function};
+ghost use Rattle.pas_typed.specs.TypedViews.{value_view, place_view, passed_view, passed_views, variable_view, mode_view, function_view, file_test_view};
+ghost use Rattle.pas_typed.specs.TypeViews.{type_view};
+ghost use Rattle.pas_types.specs.Marks.{at_first, checked, unless, Judged as SpecJudged};
+ghost use Rattle.pas_types.specs.Scopes as spec_entity;
+ghost use Rattle.pas_types.specs.Scopes.{standard_file, entity_of, routine};
 ghost use Rattle.pas_types.specs.Expressions as spec;
 ghost use Rattle.pas_types.specs.ScopeViews.{scopes_view, IsClear};
-ghost use Rattle.pas_types.specs.inner.Answers.{end_in, EndsAs, Answers, FailsBy};
-ghost use Rattle.pas_types.specs.inner.ExpressionAnswers.{SettlesBefore, Passes};
+ghost use Rattle.pas_types.specs.inner.Answers.{end_in, EndsAs, Answers, FailsBy, StandsAs, Stands};
+ghost use Rattle.pas_types.specs.inner.ExpressionAnswers.{SettlesBefore};
 ghost use Rattle.pas_types.specs.TypeForms.{char_in, undoubled};
-ghost use Rattle.pas_types.specs.inner.Arguments.{ShowsFirst, first_name_shows};
+ghost use Rattle.pas_types.specs.inner.Arguments.{ShowsFirst, first_name_shows, taken_by, taken_as, passing_in};
+ghost use Rattle.pas_types.specs.inner.Arguments.{passing_part, sole_part};
 
 use crate::constants::single_byte;
+use crate::expressions::value_of;
 use crate::judged::{End, Judged};
+use crate::names::Entity;
 use crate::scopes::Scopes;
-use crate::stop::{Stop, fault, left_out};
+use crate::stop::{Stop, demand, fault, left_out};
 use crate::variables::whole;
-use pas_syntax::tree::{Expr, Factor, FunctionCall, Ident, Quoted, Sum, Term};
-use pas_typed::typed::{Call, FileTest, Function, Heading, Passed, Place, Value, Variable};
-use pas_typed::types::Base;
+use pas_syntax::tree::{Expr, Exprs, Factor, FunctionCall, Ident, Quoted, Sum, Term};
+use pas_typed::typed::{Call, FileTest, Function, Heading, Mode, Passed, Place, Value, Variable};
+use pas_typed::types::{Base, PasType};
 use sqlite_items::{Boxed, Items};
 use wb_base::faults::{FILE_RULE, STRINGS_OUTSIDE_WRITE, UNKNOWN_NAME, WRONG_TYPE};
 
@@ -108,26 +115,298 @@ pub(crate) fn test_alone(
 }
 
 // What the call of a function with arguments means.
+#[cycle(expression)]
 pub(crate) fn called(scopes: &Scopes<'_>, call: &FunctionCall) -> Result<Judged<Value>, Stop>
     ensures { IsClear (scopes_view scopes.now) → (lead deep : ℕ)
         → Answers (factor_words lead deep (call_in scopes.now.spellings.now call.now))
         (spec.factor_of (scopes_view scopes.now) (call_in scopes.now.spellings.now call.now)) value_view result }
 {
-    Err(Stop::OutOfMemory)
+    match scopes.named(call.name) {
+        Some(Entity::Routine(number)) => {
+            routine_called(scopes, call.name, number, &call.arguments, call.closed)
+        }
+        Some(Entity::Function(function)) => {
+            applied(scopes, function, &call.arguments, call.closed)
+        }
+        Some(Entity::FileTest(test)) => tested(scopes, test, &call.arguments, call.closed),
+        Some(_) => Err(fault(WRONG_TYPE, call.name.line)),
+        None => Err(fault(UNKNOWN_NAME, call.name.line)),
+    }
+}
+
+// What the call of a declared function with arguments means.
+#[cycle(expression)]
+fn routine_called(
+    scopes: &Scopes<'_>,
+    name: Ident,
+    number: u32,
+    arguments: &Exprs,
+    closed: u32,
+) -> Result<Judged<Value>, Stop>
+    ensures { IsClear (scopes_view scopes.now) → (lead deep opened : ℕ) → Answers
+        (factor_words lead deep (tree.function_call (ident_in scopes.now.spellings.now name) opened
+        (exprs_in scopes.now.spellings.now arguments.now) closed))
+        (spec.as_call (scopes_view scopes.now) (map spec.bare_argument
+        (spec.values_of (scopes_view scopes.now) (exprs_in scopes.now.spellings.now arguments.now)))
+        (Some (routine number))) value_view result }
+{
+    match scopes.heading_of(number) {
+        Some(
+            Heading {
+                result: Some(pas_type),
+                parameters,
+                ..
+            },
+        ) => {
+            let passed = passed_to(scopes, parameters.as_slice(), arguments, closed)?;
+            let call = Call {
+                routine: number,
+                pas_type: *pas_type,
+                passed: passed.value,
+            };
+            Ok(Judged {
+                value: Value::Call(Boxed::new(scopes.alloc, call)?),
+                end: passed.end,
+            })
+        }
+        _ => Err(fault(WRONG_TYPE, name.line)),
+    }
+}
+
+// The arguments before the parenthesis in this line, as they are passed. Too few show it at that.
+#[cycle(expression)]
+fn passed_to(
+    scopes: &Scopes<'_>,
+    parameters: &[Variable],
+    arguments: &Exprs,
+    closed: u32,
+) -> Result<Judged<Items<Passed>>, Stop>
+    ensures { IsClear (scopes_view scopes.now) → (lead deep opened : ℕ) (name : tree.Ident) → Answers
+        (factor_words lead deep (tree.function_call name opened (exprs_in scopes.now.spellings.now arguments.now)
+        closed))
+        (passing_part (scopes_view scopes.now).outer.types
+        (map (variable_view scopes.now.spellings.now) parameters.now) (map spec.bare_argument
+        (spec.values_of (scopes_view scopes.now) (exprs_in scopes.now.spellings.now arguments.now))))
+        passed_views result }
+{
+    let mut passed = Items::new(scopes.alloc);
+    let mut last = argument_of(scopes, parameters.first(), &arguments.first)?;
+    for (index, more) in arguments.more.as_slice().iter().enumerate() {
+        passed.push(last.before(more.line)?)?;
+        last = argument_of(scopes, parameters.get(index + 1), &more.value)?;
+    }
+    let last = last.closed(closed)?;
+    passed.push(last.value)?;
+    demand(parameters.len() <= passed.len(), WRONG_TYPE, closed)?;
+    Ok(Judged {
+        value: passed,
+        end: last.end,
+    })
 }
 
 // An argument as it is passed to a parameter, if there is one. One too many shows it at its first token.
+#[cycle(expression)]
 pub(crate) fn argument_of(
     scopes: &Scopes<'_>,
     parameter: Option<&Variable>,
     expr: &Expr,
 ) -> Result<Judged<Passed>, Stop>
     ensures { IsClear (scopes_view scopes.now) → (lead deep : ℕ)
-        → Passes (expr_words lead deep (expr_in scopes.now.spellings.now expr.now)) (scopes_view scopes.now).outer.types
-        (option_map (variable_view scopes.now.spellings.now) (option_copied parameter.entry))
-        (spec.value_of (scopes_view scopes.now) (expr_in scopes.now.spellings.now expr.now)) result }
+        → Stands (expr_words lead deep (expr_in scopes.now.spellings.now expr.now))
+        (taken_by (option_map (passing_in scopes.now.spellings.now (scopes_view scopes.now).outer.types)
+        (option_copied parameter.entry))
+        (spec.bare_argument (spec.value_of (scopes_view scopes.now) (expr_in scopes.now.spellings.now expr.now))))
+        passed_view result }
 {
-    Err(Stop::OutOfMemory)
+    match parameter {
+        Some(parameter) => {
+            let found = value_of(scopes, expr)?;
+            passed_by(scopes, *parameter, found)
+        }
+        None => Err(one_too_many(scopes, expr)),
+    }
+}
+
+// A value as it is passed.
+fn passed_by(
+    scopes: &Scopes<'_>,
+    parameter: Variable,
+    found: Judged<Value>,
+) -> Result<Judged<Passed>, Stop>
+    ensures { (words : List Word) (part : SpecJudged SpecValue)
+        → EndsAs words part (value_view found.value) (end_in found.end)
+        → Stands words (taken_as (passing_in scopes.now.spellings.now (scopes_view scopes.now).outer.types parameter)
+        part) passed_view result }
+{
+    let is_fit = fits_parameter(scopes, parameter, &found.value);
+    let found = found.noted(is_fit, WRONG_TYPE);
+    found.end.stands()?;
+    Ok(Judged {
+        value: passed_as(parameter, found.value),
+        end: found.end,
+    })
+}
+
+// A value that fits a parameter as it is passed.
+fn passed_as(parameter: Variable, value: Value) -> Passed
+    ensures { passed_view result
+        ≡ spec.passed_by (mode_view parameter.mode) (type_view parameter.pas_type) (value_view value) }
+{
+    match (parameter.mode, value) {
+        (Mode::ByName, Value::Read(place)) => Passed::Reference(place.into_inner()),
+        (_, value) => Passed::Value(parameter.pas_type, value),
+    }
+}
+
+// Whether a value may be passed: a variable parameter takes a variable of its type that is no buffer of a file,
+// another one a compatible value.
+fn fits_parameter(scopes: &Scopes<'_>, parameter: Variable, value: &Value) -> bool
+    ensures { spec.demand_of_mode (scopes_view scopes.now).outer.types (mode_view parameter.mode)
+        (type_view parameter.pas_type) (value_view value.now) ≡ unless result (wrong WRONG_TYPE_CODE) }
+{
+    match parameter.mode {
+        Mode::ByName => is_reference(parameter.pas_type, value),
+        Mode::ByValue | Mode::Declared => scopes
+            .types
+            .are_compatible(parameter.pas_type, value.pas_type()),
+    }
+}
+
+// Whether a value is a variable of a type that is no buffer of a file.
+fn is_reference(pas_type: PasType, value: &Value) -> bool
+    ensures { result ≡ spec.is_reference (type_view pas_type) (spec.place_in (value_view value.now)) }
+{
+    match value {
+        Value::Read(place) => pas_type.is(place.get().pas_type()) && !place.get().is_buffer(),
+        _ => false,
+    }
+}
+
+// What a required function of its one argument means.
+#[cycle(expression)]
+fn applied(
+    scopes: &Scopes<'_>,
+    function: Function,
+    arguments: &Exprs,
+    closed: u32,
+) -> Result<Judged<Value>, Stop>
+    ensures { IsClear (scopes_view scopes.now) → (lead deep opened : ℕ) (name : tree.Ident) → Answers
+        (factor_words lead deep (tree.function_call name opened (exprs_in scopes.now.spellings.now arguments.now)
+        closed))
+        (spec.as_call (scopes_view scopes.now) (map spec.bare_argument
+        (spec.values_of (scopes_view scopes.now) (exprs_in scopes.now.spellings.now arguments.now)))
+        (Some (spec_entity.function (function_view function)))) value_view result }
+{
+    let found = value_of(scopes, &arguments.first)?;
+    let found = taken(scopes, function, found)?;
+    let found = sole(scopes, arguments, closed, found)?;
+    Ok(Judged {
+        value: Value::Applied(function, Boxed::new(scopes.alloc, found.value)?),
+        end: found.end,
+    })
+}
+
+// A value that a required function takes.
+fn taken(
+    scopes: &Scopes<'_>,
+    function: Function,
+    found: Judged<Value>,
+) -> Result<Judged<Value>, Stop>
+    ensures { (words : List Word) (part : SpecJudged SpecValue)
+        → EndsAs words part (value_view found.value) (end_in found.end)
+        → Stands words (checked (spec.function_demand (scopes_view scopes.now).outer.types (function_view function))
+        part) value_view result }
+{
+    let is_fit = takes(scopes, function, found.value.pas_type());
+    let found = found.noted(is_fit, WRONG_TYPE);
+    found.end.stands()?;
+    Ok(found)
+}
+
+// Whether a required function takes values of a type.
+fn takes(scopes: &Scopes<'_>, function: Function, pas_type: PasType) -> bool
+    ensures { (value : SpecValue) → type_of value ≡ type_view pas_type
+        → spec.function_demand (scopes_view scopes.now).outer.types (function_view function) value
+        ≡ unless result (wrong WRONG_TYPE_CODE) }
+{
+    match function {
+        Function::Ord => scopes.types.base_of(pas_type).is_some(),
+        Function::Chr | Function::Abs | Function::Odd => scopes.types.is_of(Base::Integer, pas_type),
+    }
+}
+
+// The first argument of a call, behind which none may stand.
+fn sole<T: Drop>(
+    scopes: &Scopes<'_>,
+    arguments: &Exprs,
+    closed: u32,
+    found: Judged<T>,
+) -> Result<Judged<T>, Stop>
+    ensures { (lead deep opened : ℕ) (name : tree.Ident) (demand : spec.Demand) (view : T → SpecValue)
+        → StandsAs (expr_words (lead + 1) deep (expr_in scopes.now.spellings.now (out-Exprs arguments.now).first))
+        (checked demand (spec.value_of (scopes_view scopes.now)
+        (expr_in scopes.now.spellings.now (out-Exprs arguments.now).first))) (view found.value) (end_in found.end)
+        → Answers
+        (factor_words lead deep (tree.function_call name opened (exprs_in scopes.now.spellings.now arguments.now)
+        closed))
+        (sole_part demand (map spec.bare_argument
+        (spec.values_of (scopes_view scopes.now) (exprs_in scopes.now.spellings.now arguments.now))))
+        view result }
+{
+    match arguments.more.get(0) {
+        Some(more) => {
+            found.before(more.line)?;
+            Err(one_too_many(scopes, &more.value))
+        }
+        None => found.closed(closed),
+    }
+}
+
+// What a question to a file means.
+#[cycle(expression)]
+fn tested(
+    scopes: &Scopes<'_>,
+    test: FileTest,
+    arguments: &Exprs,
+    closed: u32,
+) -> Result<Judged<Value>, Stop>
+    ensures { IsClear (scopes_view scopes.now) → (lead deep opened : ℕ) (name : tree.Ident) → Answers
+        (factor_words lead deep (tree.function_call name opened (exprs_in scopes.now.spellings.now arguments.now)
+        closed))
+        (spec.as_call (scopes_view scopes.now) (map spec.bare_argument
+        (spec.values_of (scopes_view scopes.now) (exprs_in scopes.now.spellings.now arguments.now)))
+        (Some (spec_entity.file_test (file_test_view test)))) value_view result }
+{
+    let found = value_of(scopes, &arguments.first)?;
+    let file = asked(scopes, test, found)?;
+    let file = sole(scopes, arguments, closed, file)?;
+    Ok(Judged {
+        value: Value::Tested(test, file.value),
+        end: file.end,
+    })
+}
+
+// The file that a value is of which a question is asked: `eoln` asks a text.
+fn asked(
+    scopes: &Scopes<'_>,
+    test: FileTest,
+    found: Judged<Value>,
+) -> Result<Judged<Boxed<Place>>, Stop>
+    ensures { (words : List Word) (part : SpecJudged SpecValue)
+        → EndsAs words part (value_view found.value) (end_in found.end)
+        → Stands words (checked (spec.test_demand (scopes_view scopes.now).outer.types (file_test_view test)) part)
+        (λ place. typed.read (place_view place)) result }
+{
+    let end = found.end;
+    end.stands()?;
+    match found.value {
+        Value::Read(place) if is_file_of(scopes, place.get()) => {
+            let is_text = place.get().pas_type().is(PasType::Text);
+            demand(is_text || test == FileTest::Eof, FILE_RULE, end.line)?;
+            Ok(Judged { value: place, end })
+        }
+        _ => Err(fault(WRONG_TYPE, end.line)),
+    }
 }
 
 // Whether a value is a file.

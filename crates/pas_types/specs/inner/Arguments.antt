@@ -1,14 +1,17 @@
 -- What functions that check the arguments of a call answer.
-use Rattle.std.specs.Prelude.{◌≡◌, ℕ, List, [], ◌∷◌, Option, Some, None}
+use Rattle.std.specs.Prelude.{◌≡◌, ℕ, List, [], ◌∷◌, Option, Some, None, option_and_then}
 use Rattle.wb_base.specs.declared.faults.TheConstants.{UNKNOWN_NAME, WRONG_TYPE}
 use Rattle.pas_tokens.specs.Cutting.{Wrong, wrong}
 use Rattle.pas_syntax.specs.Words.{Word}
+use Rattle.pas_typed.specs.declared.typed.Variable.{Variable as CodeVariable}
+use Rattle.pas_typed.specs.TypedViews.{variable_view}
 use Rattle.pas_typed.specs.Types.{Table}
 use Rattle.pas_typed.specs.Typed.{Variable, Value, Passed}
 use Rattle.pas_types.specs.declared.stop.Stop.{Stop}
-use Rattle.pas_types.specs.Marks.{at_first, lowest, Judged, judged, known}
+use Rattle.pas_types.specs.Marks.{at_first, lowest, Judged, judged, known, checked}
 use Rattle.pas_types.specs.Scopes.{Entity}
 use Rattle.pas_types.specs.Expressions.{Demand, Given, met, asked_nothing, demand_of_mode, passed_by}
+use Rattle.pas_types.specs.Expressions.{demands_of, called, given, passed_to, first_value}
 use Rattle.pas_types.specs.inner.Stopping.{shown_in}
 
 -- what the first word of a part shows, where the part is one too many
@@ -27,6 +30,11 @@ pub record Taker (B : Type 0) : Type 0 where
   pub demand : Demand
   pub make : Value → B
 
+-- a value by what takes it
+abbrev pub taken_as : {B : Type 0} → Taker B → Judged Value → Judged B
+taken_as taker part =
+    let found = checked taker.demand part in judged found.marks (known taker.make found.value)
+
 -- an argument by what takes it, if something does. One too many shows it at its first token
 abbrev pub taken_by : {B : Type 0} → Option (Taker B) → Given → Judged B
 taken_by None argument = judged (at_first (wrong WRONG_TYPE ∷ []) (met asked_nothing argument).marks) None
@@ -40,6 +48,19 @@ passing table parameter = record {
   make = passed_by parameter.mode parameter.type;
 }
 
+abbrev pub passing_in : List ℕ → Table → CodeVariable → Taker (Passed → Passed)
+passing_in spellings table parameter = passing table (variable_view spellings parameter)
+
 -- a value as it is
 abbrev pub plainly : Demand → Taker Value
 plainly demand = record { demand = demand; make = λ value. value }
+
+-- the arguments of a call as they are passed, and an argument that stands alone
+abbrev pub passing_part : Table → List Variable → List Given → Judged Passed
+passing_part table parameters arguments =
+    let demands = demands_of table parameters in
+    judged (called demands arguments) (known (passed_to parameters) (given demands arguments))
+
+abbrev pub sole_part : Demand → List Given → Judged Value
+sole_part demand arguments =
+    judged (called (demand ∷ []) arguments) (option_and_then first_value (given (demand ∷ []) arguments))
