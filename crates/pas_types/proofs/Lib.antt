@@ -21,3 +21,4 @@ pub mod SubrangeLemmas
 pub mod TypePartLemmas
 pub mod ExpressionWords
 pub mod OperatorLemmas
+pub mod PlaceLemmas
