@@ -27,3 +27,4 @@ pub mod ExprSeen
 pub mod ListedLemmas
 pub mod ArgumentLemmas
 pub mod ExprArguments
+pub mod PlaceLemmas

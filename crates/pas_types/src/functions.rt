@@ -1,5 +1,5 @@
 //! Calls of functions (ISO 7185, 6.7.3, in this project's profile).
-ghost use Rattle.std.specs.Prelude.{◌≡◌, ◌∷◌, [], ℕ, ◌+◌, List, map, Some, is_some, codes, option_map};
+ghost use Rattle.std.specs.Prelude.{◌≡◌, ◌∷◌, [], ℕ, ◌+◌, List, map, Some, None, is_some, codes, option_map, IfOk, OnErr};
 ghost use Rattle.std.specs.Option.{option_copied};
 ghost use Rattle.wb_base.specs.declared.faults.TheConstants.{WRONG_TYPE as WRONG_TYPE_CODE};
 ghost use Rattle.pas_tokens.specs.Cutting.{wrong};
@@ -22,7 +22,7 @@ ghost use Rattle.pas_types.specs.inner.Answers.{end_in, EndsAs, Answers, FailsBy
 ghost use Rattle.pas_types.specs.inner.ExpressionAnswers.{SettlesBefore};
 ghost use Rattle.pas_types.specs.TypeForms.{char_in, undoubled};
 ghost use Rattle.pas_types.specs.inner.Arguments.{ShowsFirst, first_name_shows, taken_by, taken_as, passing_in};
-ghost use Rattle.pas_types.specs.inner.Arguments.{passing_part, sole_part};
+ghost use Rattle.pas_types.specs.inner.Arguments.{passing_part, sole_part, is_asked_of};
 
 use crate::constants::single_byte;
 use crate::expressions::value_of;
@@ -397,15 +397,34 @@ fn asked(
         → Stands words (checked (spec.test_demand (scopes_view scopes.now).outer.types (file_test_view test)) part)
         (λ place. typed.read (place_view place)) result }
 {
-    let end = found.end;
-    end.stands()?;
-    match found.value {
-        Value::Read(place) if is_file_of(scopes, place.get()) => {
-            let is_text = place.get().pas_type().is(PasType::Text);
-            demand(is_text || test == FileTest::Eof, FILE_RULE, end.line)?;
-            Ok(Judged { value: place, end })
-        }
-        _ => Err(fault(WRONG_TYPE, end.line)),
+    let is_file = is_file(scopes, &found.value);
+    let is_fit = is_file && is_asked(test, found.value.pas_type());
+    let found = found.noted(is_fit, if is_file { FILE_RULE } else { WRONG_TYPE });
+    found.end.stands()?;
+    Ok(Judged {
+        value: place_alone(found.value, found.end.line)?,
+        end: found.end,
+    })
+}
+
+// Whether a question may be asked a file of a type: `eoln` asks a text.
+fn is_asked(test: FileTest, pas_type: PasType) -> bool
+    ensures { result ≡ is_asked_of (file_test_view test) (type_view pas_type) }
+{
+    match test {
+        FileTest::Eof => true,
+        FileTest::Eoln => pas_type.is(PasType::Text),
+    }
+}
+
+// The place that a value is, of which the last token stands in this line.
+pub(crate) fn place_alone(value: Value, line: u32) -> Result<Boxed<Place>, Stop>
+    ensures ok { IfOk result (λ place. value_view value ≡ typed.read (place_view place)) }
+    ensures err { OnErr result (spec.place_in (value_view value) ≡ None) }
+{
+    match value {
+        Value::Read(place) => Ok(place),
+        _ => Err(fault(WRONG_TYPE, line)),
     }
 }
 
@@ -432,10 +451,8 @@ pub(crate) fn file_only(
 {
     let line = found.end.line;
     let is_fit = is_file(scopes, &found.value);
-    match found.noted(is_fit, WRONG_TYPE).before(behind)? {
-        Value::Read(place) => Ok(place),
-        _ => Err(fault(WRONG_TYPE, line)),
-    }
+    let value = found.noted(is_fit, WRONG_TYPE).before(behind)?;
+    place_alone(value, line)
 }
 
 // Why an expression is refused that is one too many: its first token shows it, unless it shows a lower fault.

@@ -1,12 +1,13 @@
 -- What functions that check the arguments of a call answer.
-use Rattle.std.specs.Prelude.{◌≡◌, ℕ, List, [], ◌∷◌, Option, Some, None, option_and_then}
+use Rattle.std.specs.Prelude.{◌≡◌, ℕ, Bool, true, List, [], ◌∷◌, Option, Some, None, option_and_then}
 use Rattle.wb_base.specs.declared.faults.TheConstants.{UNKNOWN_NAME, WRONG_TYPE}
 use Rattle.pas_tokens.specs.Cutting.{Wrong, wrong}
 use Rattle.pas_syntax.specs.Words.{Word}
 use Rattle.pas_typed.specs.declared.typed.Variable.{Variable as CodeVariable}
 use Rattle.pas_typed.specs.TypedViews.{variable_view}
-use Rattle.pas_typed.specs.Types.{Table}
-use Rattle.pas_typed.specs.Typed.{Variable, Value, Passed}
+use Rattle.pas_typed.specs.Types.{Table, PasType, text, same_type}
+use Rattle.pas_typed.specs.Typed as typed
+use Rattle.pas_typed.specs.Typed.{Variable, Value, Passed, FileTest}
 use Rattle.pas_types.specs.declared.stop.Stop.{Stop}
 use Rattle.pas_types.specs.Marks.{at_first, lowest, Judged, judged, known, checked}
 use Rattle.pas_types.specs.Scopes.{Entity}
@@ -64,3 +65,8 @@ passing_part table parameters arguments =
 abbrev pub sole_part : Demand → List Given → Judged Value
 sole_part demand arguments =
     judged (called (demand ∷ []) arguments) (option_and_then first_value (given (demand ∷ []) arguments))
+
+-- whether a question may be asked a file of this type
+abbrev pub is_asked_of : FileTest → PasType → Bool
+is_asked_of typed.eof type = true
+is_asked_of typed.eoln type = same_type type text
