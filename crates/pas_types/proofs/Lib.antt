@@ -28,3 +28,4 @@ pub mod ListedLemmas
 pub mod ArgumentLemmas
 pub mod ExprArguments
 pub mod PlaceLemmas
+pub mod FitLemmas

@@ -1,5 +1,5 @@
 //! Calls of functions (ISO 7185, 6.7.3, in this project's profile).
-ghost use Rattle.std.specs.Prelude.{◌≡◌, ◌∷◌, [], ℕ, ◌+◌, List, map, Some, None, is_some, codes, option_map, IfOk, OnErr};
+ghost use Rattle.std.specs.Prelude.{◌≡◌, ◌∷◌, [], ℕ, ◌+◌, ◌&&◌, List, map, Some, None, is_some, codes, option_map, IfOk, OnErr};
 ghost use Rattle.std.specs.Option.{option_copied};
 ghost use Rattle.wb_base.specs.declared.faults.TheConstants.{WRONG_TYPE as WRONG_TYPE_CODE};
 ghost use Rattle.pas_tokens.specs.Cutting.{wrong};
@@ -9,9 +9,9 @@ ghost use Rattle.pas_syntax.specs.declared.tree.Expr.TheViews.{out-Exprs};
 ghost use Rattle.pas_syntax.specs.Words.{Word, name_at, text_at, expr_words, sum_words, term_words, factor_words};
 ghost use Rattle.pas_typed.specs.Types.{Table as SpecTable};
 ghost use Rattle.pas_typed.specs.Typed as typed;
-ghost use Rattle.pas_typed.specs.Typed.{Value as SpecValue};
+ghost use Rattle.pas_typed.specs.Typed.{Value as SpecValue, Passed as SpecPassed};
 ghost use Rattle.pas_typed.specs.TypeOf.{type_of, type_of_function};
-ghost use Rattle.pas_typed.specs.TypedViews.{value_view, place_view, passed_view, passed_views, variable_view, mode_view, function_view, file_test_view};
+ghost use Rattle.pas_typed.specs.TypedViews.{value_view, place_view, passed_view, passed_views, variable_view, heading_view, mode_view, function_view, file_test_view};
 ghost use Rattle.pas_typed.specs.TypeViews.{type_view};
 ghost use Rattle.pas_types.specs.Marks.{at_first, checked, unless, Judged as SpecJudged};
 ghost use Rattle.pas_types.specs.Scopes as spec_entity;
@@ -22,7 +22,7 @@ ghost use Rattle.pas_types.specs.inner.Answers.{end_in, EndsAs, Answers, FailsBy
 ghost use Rattle.pas_types.specs.inner.ExpressionAnswers.{SettlesBefore};
 ghost use Rattle.pas_types.specs.TypeForms.{char_in, undoubled};
 ghost use Rattle.pas_types.specs.inner.Arguments.{ShowsFirst, first_name_shows, taken_by, taken_as, passing_in};
-ghost use Rattle.pas_types.specs.inner.Arguments.{passing_part, sole_part, is_asked_of};
+ghost use Rattle.pas_types.specs.inner.Arguments.{plainly, passing_part, called_part, sole_part, is_asked_of, not_asked};
 
 use crate::constants::single_byte;
 use crate::expressions::value_of;
@@ -48,29 +48,40 @@ pub(crate) fn function_alone(
         (spec.function_alone number (spec.heading_of (scopes_view scopes.now) number)) value_view result }
 {
     match scopes.heading_of(number) {
-        Some(
-            Heading {
-                result: Some(pas_type),
-                parameters,
-                ..
-            },
-        ) => {
+        Some(heading) => heading_alone(scopes, ident, number, heading),
+        None => Err(Stop::OutOfMemory),
+    }
+}
+
+// The same of a routine with this heading.
+fn heading_alone(
+    scopes: &Scopes<'_>,
+    ident: Ident,
+    number: u32,
+    heading: &Heading,
+) -> Result<Judged<Value>, Stop>
+    ensures { (n : ℕ) → Answers (name_at n (ident_in scopes.now.spellings.now ident) ∷ [])
+        (spec.function_alone number (Some (heading_view scopes.now.spellings.now heading.now))) value_view result }
+{
+    match heading.result {
+        Some(pas_type) => {
             let call = Call {
                 routine: number,
-                pas_type: *pas_type,
+                pas_type,
                 passed: Items::new(scopes.alloc),
             };
+            let value = Value::Call(Boxed::new(scopes.alloc, call)?);
             let end = End::lawful(ident.line);
-            Ok(Judged {
-                value: Value::Call(Boxed::new(scopes.alloc, call)?),
-                end: if parameters.is_empty() {
-                    end
-                } else {
-                    end.short()
-                },
-            })
+            if heading.parameters.is_empty() {
+                Ok(Judged { value, end })
+            } else {
+                Ok(Judged {
+                    value,
+                    end: end.short(),
+                })
+            }
         }
-        _ => Err(fault(WRONG_TYPE, ident.line)),
+        None => Err(fault(WRONG_TYPE, ident.line)),
     }
 }
 
@@ -151,26 +162,38 @@ fn routine_called(
         (Some (routine number))) value_view result }
 {
     match scopes.heading_of(number) {
-        Some(
-            Heading {
-                result: Some(pas_type),
-                parameters,
-                ..
-            },
-        ) => {
-            let passed = passed_to(scopes, parameters.as_slice(), arguments, closed)?;
-            let call = Call {
-                routine: number,
-                pas_type: *pas_type,
-                passed: passed.value,
-            };
-            Ok(Judged {
-                value: Value::Call(Boxed::new(scopes.alloc, call)?),
-                end: passed.end,
-            })
-        }
-        _ => Err(fault(WRONG_TYPE, name.line)),
+        Some(heading) => match heading.result {
+            Some(pas_type) => {
+                let parameters = heading.parameters.as_slice();
+                let passed = passed_to(scopes, parameters, arguments, closed)?;
+                call_of(scopes, number, pas_type, passed)
+            }
+            None => Err(fault(WRONG_TYPE, name.line)),
+        },
+        None => Err(Stop::OutOfMemory),
     }
+}
+
+// The call of a function with these arguments.
+fn call_of(
+    scopes: &Scopes<'_>,
+    number: u32,
+    pas_type: PasType,
+    passed: Judged<Items<Passed>>,
+) -> Result<Judged<Value>, Stop>
+    ensures { (words : List Word) (part : SpecJudged SpecPassed)
+        → EndsAs words part (passed_views passed.value) (end_in passed.end)
+        → Answers words (called_part number (type_view pas_type) part) value_view result }
+{
+    let call = Call {
+        routine: number,
+        pas_type,
+        passed: passed.value,
+    };
+    Ok(Judged {
+        value: Value::Call(Boxed::new(scopes.alloc, call)?),
+        end: passed.end,
+    })
 }
 
 // The arguments before the parenthesis in this line, as they are passed. Too few show it at that.
@@ -241,20 +264,23 @@ fn passed_by(
     let is_fit = fits_parameter(scopes, parameter, &found.value);
     let found = found.noted(is_fit, WRONG_TYPE);
     found.end.stands()?;
+    let value = passed_as(parameter, found.value, found.end.line)?;
     Ok(Judged {
-        value: passed_as(parameter, found.value),
+        value,
         end: found.end,
     })
 }
 
-// A value that fits a parameter as it is passed.
-fn passed_as(parameter: Variable, value: Value) -> Passed
-    ensures { passed_view result
-        ≡ spec.passed_by (mode_view parameter.mode) (type_view parameter.pas_type) (value_view value) }
+// A value as it is passed, of which the last token stands in this line.
+fn passed_as(parameter: Variable, value: Value, line: u32) -> Result<Passed, Stop>
+    ensures ok { IfOk result (λ found. passed_view found
+        ≡ spec.passed_by (mode_view parameter.mode) (type_view parameter.pas_type) (value_view value)) }
+    ensures err { OnErr result ((mode_view parameter.mode ≡ typed.by_name)
+        × (spec.place_in (value_view value) ≡ None)) }
 {
-    match (parameter.mode, value) {
-        (Mode::ByName, Value::Read(place)) => Passed::Reference(place.into_inner()),
-        (_, value) => Passed::Value(parameter.pas_type, value),
+    match parameter.mode {
+        Mode::ByName => Ok(Passed::Reference(place_alone(value, line)?.into_inner())),
+        _ => Ok(Passed::Value(parameter.pas_type, value)),
     }
 }
 
@@ -266,7 +292,7 @@ fn fits_parameter(scopes: &Scopes<'_>, parameter: Variable, value: &Value) -> bo
 {
     match parameter.mode {
         Mode::ByName => is_reference(parameter.pas_type, value),
-        Mode::ByValue | Mode::Declared => scopes
+        _ => scopes
             .types
             .are_compatible(parameter.pas_type, value.pas_type()),
     }
@@ -314,8 +340,8 @@ fn taken(
 ) -> Result<Judged<Value>, Stop>
     ensures { (words : List Word) (part : SpecJudged SpecValue)
         → EndsAs words part (value_view found.value) (end_in found.end)
-        → Stands words (checked (spec.function_demand (scopes_view scopes.now).outer.types (function_view function))
-        part) value_view result }
+        → Stands words (taken_as (plainly (spec.function_demand (scopes_view scopes.now).outer.types
+        (function_view function))) part) value_view result }
 {
     let is_fit = takes(scopes, function, found.value.pas_type());
     let found = found.noted(is_fit, WRONG_TYPE);
@@ -331,7 +357,7 @@ fn takes(scopes: &Scopes<'_>, function: Function, pas_type: PasType) -> bool
 {
     match function {
         Function::Ord => scopes.types.base_of(pas_type).is_some(),
-        Function::Chr | Function::Abs | Function::Odd => scopes.types.is_of(Base::Integer, pas_type),
+        _ => scopes.types.is_of(Base::Integer, pas_type),
     }
 }
 
@@ -344,7 +370,7 @@ fn sole<T: Drop>(
 ) -> Result<Judged<T>, Stop>
     ensures { (lead deep opened : ℕ) (name : tree.Ident) (demand : spec.Demand) (view : T → SpecValue)
         → StandsAs (expr_words (lead + 1) deep (expr_in scopes.now.spellings.now (out-Exprs arguments.now).first))
-        (checked demand (spec.value_of (scopes_view scopes.now)
+        (taken_as (plainly demand) (spec.value_of (scopes_view scopes.now)
         (expr_in scopes.now.spellings.now (out-Exprs arguments.now).first))) (view found.value) (end_in found.end)
         → Answers
         (factor_words lead deep (tree.function_call name opened (exprs_in scopes.now.spellings.now arguments.now)
@@ -394,12 +420,12 @@ fn asked(
 ) -> Result<Judged<Boxed<Place>>, Stop>
     ensures { (words : List Word) (part : SpecJudged SpecValue)
         → EndsAs words part (value_view found.value) (end_in found.end)
-        → Stands words (checked (spec.test_demand (scopes_view scopes.now).outer.types (file_test_view test)) part)
-        (λ place. typed.read (place_view place)) result }
+        → Stands words (taken_as (plainly (spec.test_demand (scopes_view scopes.now).outer.types
+        (file_test_view test))) part) (λ place. typed.read (place_view place)) result }
 {
     let is_file = is_file(scopes, &found.value);
-    let is_fit = is_file && is_asked(test, found.value.pas_type());
-    let found = found.noted(is_fit, if is_file { FILE_RULE } else { WRONG_TYPE });
+    let is_fit = is_asked(test, is_file, found.value.pas_type());
+    let found = found.noted(is_fit, no_question(is_file));
     found.end.stands()?;
     Ok(Judged {
         value: place_alone(found.value, found.end.line)?,
@@ -407,14 +433,21 @@ fn asked(
     })
 }
 
-// Whether a question may be asked a file of a type: `eoln` asks a text.
-fn is_asked(test: FileTest, pas_type: PasType) -> bool
-    ensures { result ≡ is_asked_of (file_test_view test) (type_view pas_type) }
+// Whether a question may be asked a value of a type, which is a file or not: `eoln` asks a text.
+fn is_asked(test: FileTest, is_file: bool, pas_type: PasType) -> bool
+    ensures { result ≡ is_file && is_asked_of (file_test_view test) (type_view pas_type) }
 {
     match test {
-        FileTest::Eof => true,
-        FileTest::Eoln => pas_type.is(PasType::Text),
+        FileTest::Eof => is_file,
+        FileTest::Eoln => is_file && pas_type.is(PasType::Text),
     }
+}
+
+// What a value shows of which no question may be asked.
+fn no_question(is_file: bool) -> u16
+    ensures { result ≡ not_asked is_file }
+{
+    if is_file { FILE_RULE } else { WRONG_TYPE }
 }
 
 // The place that a value is, of which the last token stands in this line.

@@ -1,6 +1,6 @@
 -- What functions that check the arguments of a call answer.
-use Rattle.std.specs.Prelude.{◌≡◌, ℕ, Bool, true, List, [], ◌∷◌, Option, Some, None, option_and_then}
-use Rattle.wb_base.specs.declared.faults.TheConstants.{UNKNOWN_NAME, WRONG_TYPE}
+use Rattle.std.specs.Prelude.{◌≡◌, ℕ, Bool, true, false, List, [], ◌∷◌, Option, Some, None, option_and_then}
+use Rattle.wb_base.specs.declared.faults.TheConstants.{UNKNOWN_NAME, WRONG_TYPE, FILE_RULE}
 use Rattle.pas_tokens.specs.Cutting.{Wrong, wrong}
 use Rattle.pas_syntax.specs.Words.{Word}
 use Rattle.pas_typed.specs.declared.typed.Variable.{Variable as CodeVariable}
@@ -62,6 +62,9 @@ passing_part table parameters arguments =
     let demands = demands_of table parameters in
     judged (called demands arguments) (known (passed_to parameters) (given demands arguments))
 
+abbrev pub called_part : ℕ → PasType → Judged Passed → Judged Value
+called_part number type part = judged part.marks (known (typed.call number type) part.value)
+
 abbrev pub sole_part : Demand → List Given → Judged Value
 sole_part demand arguments =
     judged (called (demand ∷ []) arguments) (option_and_then first_value (given (demand ∷ []) arguments))
@@ -70,3 +73,8 @@ sole_part demand arguments =
 abbrev pub is_asked_of : FileTest → PasType → Bool
 is_asked_of typed.eof type = true
 is_asked_of typed.eoln type = same_type type text
+
+-- what a value shows of which no question may be asked
+abbrev pub not_asked : Bool → ℕ
+not_asked true = FILE_RULE
+not_asked false = WRONG_TYPE
