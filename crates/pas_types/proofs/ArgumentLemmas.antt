@@ -58,34 +58,34 @@ abbrev pub demands_of : {B : Type 0} → List (Taker B) → List Demand
 demands_of takers = map (λ taker. taker.demand) takers
 
 -- words and marks
-plain_words : {B : Type 0} (arguments : List Argued)
+plain_words : (B : Type 0) (arguments : List Argued)
     → item_words (map (plain_item {B = B}) arguments) ≡ argued_words arguments
-plain_words [] = refl
-plain_words {B = B} (argued ∷ others) =
-    ap (λ (words : List Word). argued.before ∷ (argued.words ++ words)) (plain_words {B = B} others)
+plain_words B [] = refl
+plain_words B (argued ∷ others) =
+    ap (λ (words : List Word). argued.before ∷ (argued.words ++ words)) (plain_words B others)
 
 pub items_words : {B : Type 0} (takers : List (Taker B)) (arguments : List Argued)
     → item_words (argument_items takers arguments) ≡ argued_words arguments
 items_words [] [] = refl
 items_words {B = B} [] (argued ∷ others) =
-    ap (λ (words : List Word). argued.before ∷ (argued.words ++ words)) (plain_words {B = B} others)
+    ap (λ (words : List Word). argued.before ∷ (argued.words ++ words)) (plain_words B others)
 items_words (taker ∷ takers) [] = refl
 items_words (taker ∷ takers) (argued ∷ others) =
     ap (λ (words : List Word). argued.before ∷ (argued.words ++ words)) (items_words takers others)
 
-plain_listed : {B : Type 0} (arguments : List Argued)
+plain_listed : (B : Type 0) (arguments : List Argued)
     → map (λ item. item.part.marks) (map (plain_item {B = B}) arguments)
     ≡ map (λ other. (met asked_nothing other).marks) (givens_of arguments)
-plain_listed [] = refl
-plain_listed {B = B} (argued ∷ others) =
-    ap (λ (marks : List Marks). (met asked_nothing argued.argument).marks ∷ marks) (plain_listed {B = B} others)
+plain_listed B [] = refl
+plain_listed B (argued ∷ others) =
+    ap (λ (marks : List Marks). (met asked_nothing argued.argument).marks ∷ marks) (plain_listed B others)
 
 items_listed : {B : Type 0} (takers : List (Taker B)) (arguments : List Argued)
     → map (λ item. item.part.marks) (argument_items takers arguments)
     ≡ argument_marks (demands_of takers) (givens_of arguments)
 items_listed [] [] = refl
 items_listed {B = B} [] (argued ∷ others) =
-    ap (λ (marks : List Marks). (taken_by {B = B} None argued.argument).marks ∷ marks) (plain_listed {B = B} others)
+    ap (λ (marks : List Marks). (taken_by {B = B} None argued.argument).marks ∷ marks) (plain_listed B others)
 items_listed (taker ∷ takers) [] = refl
 items_listed (taker ∷ takers) (argued ∷ others) =
     ap (λ (marks : List Marks). (met taker.demand argued.argument).marks ∷ marks) (items_listed takers others)
@@ -100,16 +100,16 @@ taken_many None argued h =
     }
 taken_many (Some taker) argued h = record { same = met_count taker.demand argued.argument ∙ h.same }
 
-plain_many : {B : Type 0} (arguments : List Argued) → AreArgued arguments
+plain_many : (B : Type 0) (arguments : List Argued) → AreArgued arguments
     → AreMany (map (plain_item {B = B}) arguments)
-plain_many [] h = tt
-plain_many (argued ∷ others) h =
-    (record { same = met_count asked_nothing argued.argument ∙ h.0.same }, plain_many others h.1)
+plain_many B [] h = tt
+plain_many B (argued ∷ others) h =
+    (record { same = met_count asked_nothing argued.argument ∙ h.0.same }, plain_many B others h.1)
 
 items_many : {B : Type 0} (takers : List (Taker B)) (arguments : List Argued) → AreArgued arguments
     → AreMany (argument_items takers arguments)
 items_many [] [] h = tt
-items_many [] (argued ∷ others) h = (taken_many None argued h.0, plain_many others h.1)
+items_many {B = B} [] (argued ∷ others) h = (taken_many {B = B} None argued h.0, plain_many B others h.1)
 items_many (taker ∷ takers) [] h = tt
 items_many (taker ∷ takers) (argued ∷ others) h =
     (taken_many (Some taker) argued h.0, items_many takers others h.1)
@@ -121,7 +121,7 @@ module _ {B : Type 0} (argued : Argued) where
       → (others : List (Item B)) × AreMany others × (argument_items takers (before ++ argued ∷ after)
       ≡ argument_items takers before
       ++ item_of argued (taken_by (slice_get takers (length before)) argued.argument) ∷ others)
-  items_split [] [] after few many = (map plain_item after, plain_many after many, refl)
+  items_split [] [] after few many = (map plain_item after, plain_many B after many, refl)
   items_split [] (first ∷ before) after few many = absurd (omega (arith, few))
   items_split (taker ∷ takers) [] after few many =
       (argument_items takers after, items_many takers after many, refl)

@@ -29,3 +29,5 @@ pub mod ArgumentLemmas
 pub mod ExprArguments
 pub mod PlaceLemmas
 pub mod FitLemmas
+pub mod CallAnswers
+pub mod ExprCalls
