@@ -235,7 +235,7 @@ abbrev pub made_by : {B : Type 0} → List (Taker B) → List Value → List B
 made_by (taker ∷ takers) (value ∷ values) = taker.make value ∷ made_by takers values
 made_by takers values = []
 
-some_known : {A B : Type 0} (make : A → B) (found : Option A) (whole : B) → known make found ≡ Some whole
+pub some_known : {A B : Type 0} (make : A → B) (found : Option A) (whole : B) → known make found ≡ Some whole
     → (value : A) × (found ≡ Some value) × (make value ≡ whole)
 some_known make None whole h = absurd (none-some whole h)
 some_known make (Some value) whole h = (value, refl, cc)

@@ -1,7 +1,7 @@
 -- Values that are fit for what takes them, or not.
 use Rattle.std.proofs.Common.{◌≡◌, refl, sym, ap, subst, ◌∙◌, ℕ, Bool, true, false, List, [], ◌∷◌, Option, Some, None}
 use Rattle.std.proofs.Common.{Result, Ok, Err, map}
-use Rattle.std.specs.Prelude.{IfOk, OnErr, ◌&&◌, is_some, if◌then◌else◌, option_and_then}
+use Rattle.std.specs.Prelude.{IfOk, OnErr, ◌&&◌, option_map, is_some, if◌then◌else◌, option_and_then}
 use Rattle.std.proofs.lemmas.Option.{none-some}
 use Rattle.wb_base.specs.declared.faults.TheConstants.{WRONG_TYPE, FILE_RULE}
 use Rattle.pas_tokens.specs.Cutting.{Wrong, wrong}
@@ -27,8 +27,10 @@ use Rattle.pas_types.specs.Expressions.{Demand, Given, bare, bare_argument, met,
 use Rattle.pas_types.specs.Expressions.{demand_of_mode, compatible_with, is_reference, place_in, file_in, file_only}
 use Rattle.pas_types.specs.Expressions.{is_file, test_demand, without_arguments}
 use Rattle.pas_types.specs.inner.Answers.{Ending, noted_end, lawful_end, short_end, stands_by, EndsAs, FailsBy, StandsAs}
-use Rattle.pas_types.specs.inner.Answers.{Means}
-use Rattle.pas_types.specs.inner.Arguments.{Taker, taken_as, taken_by, plainly, is_asked_of, not_asked}
+use Rattle.pas_types.specs.inner.Answers.{Means, Stands}
+use Rattle.pas_types.specs.declared.judged.Judged.{Judged as CodeJudged}
+use Rattle.pas_typed.specs.declared.typed.Variable.{Variable as CodeVariable}
+use Rattle.pas_types.specs.inner.Arguments.{Taker, taken_as, taken_by, plainly, is_asked_of, not_asked, passing_in}
 use Rattle.pas_types.specs.inner.ExpressionAnswers.{SettlesBefore}
 use Rattle.pas_types.proofs.AnswerLemmas.{checked_fails, checked_stands, made_ends, ends_moved, word_misses}
 use Rattle.pas_types.proofs.PartLemmas.{alone}
@@ -172,3 +174,26 @@ pub call_viewed : (call : code_call.Call)
 call_viewed call =
     value_view-Call call
     ∙ call_view-roll (record { routine = call.routine; pas_type = call.pas_type; passed = call.passed })
+
+-- a value that is passed to a parameter, if there is one
+module _ (spellings : List ℕ) (table : Table) (words : List Word) (value : Judged Value)
+    (found : Option CodeVariable) where
+  abbrev part : Judged (Passed → Passed)
+  part = taken_by (option_map (passing_in spellings table) found) (bare_argument value)
+
+  pub seen_parameter : {X : Type 0} (parameter : CodeVariable) → found ≡ Some parameter → (view : X → Passed → Passed)
+      (result : Result (CodeJudged X) Stop)
+      → Stands words (taken_as (passing_in spellings table parameter) value) view result
+      → Stands words part view result
+  seen_parameter parameter is view result h =
+      subst (λ (p : Option CodeVariable). Stands words (taken_by (option_map (passing_in spellings table) p)
+      (bare_argument value)) view result) (sym is)
+      (subst (λ (one : Judged (Passed → Passed)). Stands words one view result)
+      (sym (bare_taken (passing_in spellings table parameter) value)) h)
+
+  pub no_parameter : found ≡ None → (why : Stop)
+      → FailsBy words (at_first (wrong WRONG_TYPE ∷ []) value.marks) why → FailsBy words part.marks why
+  no_parameter is why h =
+      subst (λ (p : Option CodeVariable). FailsBy words (taken_by (option_map (passing_in spellings table) p)
+      (bare_argument value)).marks why) (sym is)
+      (subst (λ (marks : Marks). FailsBy words marks why) (sym (bare_many (Passed → Passed) value)) h)

@@ -31,3 +31,4 @@ pub mod PlaceLemmas
 pub mod FitLemmas
 pub mod CallAnswers
 pub mod ExprCalls
+pub mod EntityCalls

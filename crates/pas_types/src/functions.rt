@@ -1,5 +1,5 @@
 //! Calls of functions (ISO 7185, 6.7.3, in this project's profile).
-ghost use Rattle.std.specs.Prelude.{◌≡◌, ◌∷◌, [], ℕ, ◌+◌, ◌&&◌, List, map, Some, None, is_some, codes, option_map, IfOk, OnErr};
+ghost use Rattle.std.specs.Prelude.{◌≡◌, ◌≢◌, ◌∷◌, [], ℕ, ◌+◌, ◌&&◌, List, map, Some, None, is_some, codes, option_map, IfOk, OnErr};
 ghost use Rattle.std.specs.Option.{option_copied};
 ghost use Rattle.wb_base.specs.declared.faults.TheConstants.{WRONG_TYPE as WRONG_TYPE_CODE};
 ghost use Rattle.pas_tokens.specs.Cutting.{wrong};
@@ -17,6 +17,7 @@ ghost use Rattle.pas_types.specs.Marks.{at_first, checked, unless, Judged as Spe
 ghost use Rattle.pas_types.specs.Scopes as spec_entity;
 ghost use Rattle.pas_types.specs.Scopes.{standard_file, entity_of, routine};
 ghost use Rattle.pas_types.specs.Expressions as spec;
+ghost use Rattle.pas_types.specs.NameViews.{entity_view};
 ghost use Rattle.pas_types.specs.ScopeViews.{scopes_view, IsClear};
 ghost use Rattle.pas_types.specs.inner.Answers.{end_in, EndsAs, Answers, FailsBy, StandsAs, Stands};
 ghost use Rattle.pas_types.specs.inner.ExpressionAnswers.{SettlesBefore};
@@ -133,15 +134,33 @@ pub(crate) fn called(scopes: &Scopes<'_>, call: &FunctionCall) -> Result<Judged<
         (spec.factor_of (scopes_view scopes.now) (call_in scopes.now.spellings.now call.now)) value_view result }
 {
     match scopes.named(call.name) {
-        Some(Entity::Routine(number)) => {
-            routine_called(scopes, call.name, number, &call.arguments, call.closed)
-        }
-        Some(Entity::Function(function)) => {
-            applied(scopes, function, &call.arguments, call.closed)
-        }
-        Some(Entity::FileTest(test)) => tested(scopes, test, &call.arguments, call.closed),
-        Some(_) => Err(fault(WRONG_TYPE, call.name.line)),
+        Some(entity) => called_as(scopes, entity, call.name, &call.arguments, call.closed),
         None => Err(fault(UNKNOWN_NAME, call.name.line)),
+    }
+}
+
+// What the call with arguments of a name means that stands for this.
+#[cycle(expression)]
+fn called_as(
+    scopes: &Scopes<'_>,
+    entity: Entity,
+    name: Ident,
+    arguments: &Exprs,
+    closed: u32,
+) -> Result<Judged<Value>, Stop>
+    ensures { IsClear (scopes_view scopes.now) → entity_view entity ≢ spec_entity.unclear
+        → (lead deep opened : ℕ) → Answers
+        (factor_words lead deep (tree.function_call (ident_in scopes.now.spellings.now name) opened
+        (exprs_in scopes.now.spellings.now arguments.now) closed))
+        (spec.as_call (scopes_view scopes.now) (map spec.bare_argument
+        (spec.values_of (scopes_view scopes.now) (exprs_in scopes.now.spellings.now arguments.now)))
+        (Some (entity_view entity))) value_view result }
+{
+    match entity {
+        Entity::Routine(number) => routine_called(scopes, name, number, arguments, closed),
+        Entity::Function(function) => applied(scopes, function, arguments, closed),
+        Entity::FileTest(test) => tested(scopes, test, arguments, closed),
+        _ => Err(fault(WRONG_TYPE, name.line)),
     }
 }
 

@@ -1,4 +1,4 @@
-use Rattle.std.proofs.Common.{rules, ◌≡◌, ◌∷◌, ◌++◌, [], ℕ, pos, List, None, false, is_some, ◌+◌, ◌-◌, ◌*◌, ◌<◌, ◌≤◌, length, ◌/◌, ◌%◌, Bool, true, nat_eq, nat_lt, slice_index_or, slice_set, bit_and, bit_or, Fits, w8, w32, w64, Bor, MutBor}
+use Rattle.std.proofs.Common.{refl, ap, sym, subst, ◌∙◌, rules, ◌≡◌, ◌∷◌, ◌++◌, [], ℕ, pos, List, None, false, is_some, ◌+◌, ◌-◌, ◌*◌, ◌<◌, ◌≤◌, length, ◌/◌, ◌%◌, Bool, true, nat_eq, nat_lt, slice_index_or, slice_set, bit_and, bit_or, Fits, w8, w32, w64, Bor, MutBor}
 use Rattle.wb_base.specs.declared.faults.TheConstants.{WRONG_TYPE as WRONG_TYPE_CODE}
 use Rattle.pas_syntax.specs.Views.{ident_in, numeral_in, quoted_in, expr_in, sum_in, term_in, factor_in, variable_in}
 use Rattle.pas_syntax.specs.Words.{Word, name_at, number_at, text_at, expr_words, sum_words, term_words, factor_words, variable_words}
@@ -8,7 +8,7 @@ use Rattle.pas_typed.specs.Typed.{Value as SpecValue}
 use Rattle.pas_typed.specs.Typed.{Place as SpecPlace}
 use Rattle.pas_typed.specs.TypeOf.{type_of}
 use Rattle.pas_typed.specs.TypeViews.{base_view}
-use Rattle.pas_typed.specs.TypedViews.{value_view, place_view}
+use Rattle.pas_typed.specs.TypedViews.{value_view, place_view, passed_view}
 use Rattle.pas_types.specs.Marks.{means, noted}
 use Rattle.pas_types.specs.Marks.{Judged as SpecJudged}
 use Rattle.pas_types.specs.Scopes.{entity_of}
@@ -18,6 +18,20 @@ use Rattle.pas_types.specs.ScopeViews.{scopes_view, IsClear}
 use Rattle.pas_types.specs.inner.Ends.{Ends}
 use Rattle.pas_types.specs.inner.Answers.{end_in, noted_end, EndsAs, Answers}
 use Rattle.pas_types.specs.inner.ExpressionAnswers.{parenthesized_of, char_value}
+use Rattle.std.specs.Option.{option_copied}
+use Rattle.std.proofs.lemmas.Result.{err_from_is_err_and}
+use Rattle.pas_types.specs.inner.Arguments.{taken_as, plainly, passing_in, sole_part}
+use Rattle.pas_syntax.specs.declared.tree.Expr.TheViews.{out-Exprs}
+use Rattle.pas_typed.specs.declared.typed.Place as code_place
+use Rattle.pas_typed.specs.declared.typed.Value.TheVariants as code_value
+use Rattle.pas_typed.specs.TypedViews.{function_view, file_test_view}
+use Rattle.pas_typed.proofs.ValueViews.{value_view-Applied, value_view-Tested}
+use Rattle.pas_types.specs.Marks.{judged, known}
+use Rattle.pas_types.proofs.EntityCalls.{tested_part, tested_stops, tested_ends, stop_made}
+use Rattle.pas_types.proofs.ExprCalls.{call_words, givens, sole_first}
+use Rattle.pas_types.proofs.AnswerLemmas.{stands_stop, answers_stop, ends_moved, made_ends}
+use Rattle.pas_types.proofs.CallAnswers.{stopped_fails}
+use Rattle.pas_types.proofs.FitLemmas.{seen_parameter, no_parameter}
 use Rattle.pas_types.proofs.+expression.Goals as goal
 
 -- src/expressions.rt:108:25
@@ -153,118 +167,185 @@ pub expressions::variable_value-returns-in_ok-place_of :
     goal.expressions::variable_value-returns-in_ok-place_of
 expressions::variable_value-returns-in_ok-place_of t c = ?
 
--- src/functions.rt:326:17
-pub functions::applied-returns-in_err-found : goal.functions::applied-returns-in_err-found
-functions::applied-returns-in_err-found t c = ?
 
--- src/functions.rt:327:17
-pub functions::applied-returns-in_err-found-2 : goal.functions::applied-returns-in_err-found-2
-functions::applied-returns-in_err-found-2 t c = ?
+-- calls of functions
 
--- src/functions.rt:328:17
-pub functions::applied-returns-in_err-found-3 : goal.functions::applied-returns-in_err-found-3
-functions::applied-returns-in_err-found-3 t c = ?
-
--- src/functions.rt:312:1
-pub functions::applied-returns : goal.functions::applied-returns
-functions::applied-returns t c = ?
-
--- src/functions.rt:246:25
 pub functions::argument_of-returns-in_err-found-in-Some :
     goal.functions::argument_of-returns-in_err-found-in-Some
-functions::argument_of-returns-in_err-found-in-Some t c = ?
+functions::argument_of-returns-in_err-found-in-Some t c clear lead deep =
+    let scopes = scopes_view c.args.scopes.now in
+    let spellings = c.args.scopes.now.spellings.now in
+    let expr = expr_in spellings c.args.expr.now in
+    let words = expr_words lead deep expr in
+    let taker = passing_in spellings scopes.outer.types c.in-Some.parameter.now in
+    let why = c.in_err-found-in-Some.field-0.0 in
+    seen_parameter spellings scopes.outer.types words (spec.value_of scopes expr) (option_copied c.args.parameter)
+    c.in-Some.parameter.now (ap option_copied c.in-Some.is) passed_view c.from_residual.result
+    (stands_stop words (taken_as taker (spec.value_of scopes expr)) passed_view why c.from_residual.result
+    (err_from_is_err_and _ c.from_residual.ensures.1)
+    (stopped_fails words taker (spec.value_of scopes expr) why (c.in_err-found-in-Some.ensures clear lead deep)))
 
--- src/functions.rt:231:1
 pub functions::argument_of-returns-in_ok-found-in-Some :
     goal.functions::argument_of-returns-in_ok-found-in-Some
-functions::argument_of-returns-in_ok-found-in-Some t c = ?
+functions::argument_of-returns-in_ok-found-in-Some t c clear lead deep =
+    let scopes = scopes_view c.args.scopes.now in
+    let spellings = c.args.scopes.now.spellings.now in
+    let expr = expr_in spellings c.args.expr.now in
+    let words = expr_words lead deep expr in
+    seen_parameter spellings scopes.outer.types words (spec.value_of scopes expr) (option_copied c.args.parameter)
+    c.in-Some.parameter.now (ap option_copied c.in-Some.is) passed_view c.passed_by.result
+    (c.passed_by.ensures words (spec.value_of scopes expr) (c.in_ok-found-in-Some.ensures clear lead deep))
 
--- src/functions.rt:231:1
 pub functions::argument_of-returns-in-None : goal.functions::argument_of-returns-in-None
-functions::argument_of-returns-in-None t c = ?
+functions::argument_of-returns-in-None t c clear lead deep =
+    let scopes = scopes_view c.args.scopes.now in
+    let spellings = c.args.scopes.now.spellings.now in
+    let expr = expr_in spellings c.args.expr.now in
+    no_parameter spellings scopes.outer.types (expr_words lead deep expr) (spec.value_of scopes expr)
+    c.args.parameter.entry (ap option_copied c.in-None.is) c.one_too_many.result
+    (c.one_too_many.ensures.fails lead deep)
 
--- src/functions.rt:129:1
-pub functions::called-returns-in-Some-Routine : goal.functions::called-returns-in-Some-Routine
-functions::called-returns-in-Some-Routine t c = ?
 
--- src/functions.rt:129:1
-pub functions::called-returns-in-Some-Function : goal.functions::called-returns-in-Some-Function
-functions::called-returns-in-Some-Function t c = ?
+pub functions::applied-returns-in_err-found : goal.functions::applied-returns-in_err-found
+functions::applied-returns-in_err-found t c clear lead deep opened name =
+    let scopes = scopes_view c.args.scopes.now in
+    let spellings = c.args.scopes.now.spellings.now in
+    let exprs = c.args.arguments.now in
+    let demand = spec.function_demand scopes.outer.types (function_view c.args.function) in
+    let first = expr_in spellings (out-Exprs exprs).first in
+    let why = c.in_err-found.field-0.0 in
+    stop_made (call_words scopes spellings lead deep name opened c.args.closed exprs)
+    (typed.applied (function_view c.args.function))
+    (sole_part demand (givens scopes spellings lead deep name opened c.args.closed exprs)) value_view why
+    c.from_residual.result (err_from_is_err_and _ c.from_residual.ensures.1)
+    (sole_first scopes spellings lead deep name opened c.args.closed exprs demand why
+    (stopped_fails (expr_words (lead + 1) deep first) (plainly demand) (spec.value_of scopes first) why
+    (c.in_err-found.ensures clear (lead + 1) deep)))
 
--- src/functions.rt:129:1
-pub functions::called-returns-in-Some-FileTest : goal.functions::called-returns-in-Some-FileTest
-functions::called-returns-in-Some-FileTest t c = ?
+pub functions::applied-returns-in_err-found-2 : goal.functions::applied-returns-in_err-found-2
+functions::applied-returns-in_err-found-2 t c clear lead deep opened name =
+    let scopes = scopes_view c.args.scopes.now in
+    let spellings = c.args.scopes.now.spellings.now in
+    let exprs = c.args.arguments.now in
+    let demand = spec.function_demand scopes.outer.types (function_view c.args.function) in
+    let first = expr_in spellings (out-Exprs exprs).first in
+    let why = c.in_err-found-2.field-0.0 in
+    stop_made (call_words scopes spellings lead deep name opened c.args.closed exprs)
+    (typed.applied (function_view c.args.function))
+    (sole_part demand (givens scopes spellings lead deep name opened c.args.closed exprs)) value_view why
+    c.from_residual-in_err-found-2.result (err_from_is_err_and _ c.from_residual-in_err-found-2.ensures.1)
+    (sole_first scopes spellings lead deep name opened c.args.closed exprs demand why
+    (c.in_err-found-2.ensures (expr_words (lead + 1) deep first) (spec.value_of scopes first)
+    (c.in_ok-found.ensures clear (lead + 1) deep)))
 
--- src/functions.rt:129:1
-pub functions::called-returns-in-Some : goal.functions::called-returns-in-Some
-functions::called-returns-in-Some t c = ?
+pub functions::applied-returns-in_err-found-3 : goal.functions::applied-returns-in_err-found-3
+functions::applied-returns-in_err-found-3 t c clear lead deep opened name =
+    let scopes = scopes_view c.args.scopes.now in
+    let spellings = c.args.scopes.now.spellings.now in
+    let exprs = c.args.arguments.now in
+    let demand = spec.function_demand scopes.outer.types (function_view c.args.function) in
+    let first = expr_in spellings (out-Exprs exprs).first in
+    let why = c.in_err-found-3.field-0.0 in
+    stop_made (call_words scopes spellings lead deep name opened c.args.closed exprs)
+    (typed.applied (function_view c.args.function))
+    (sole_part demand (givens scopes spellings lead deep name opened c.args.closed exprs)) value_view why
+    c.from_residual-in_err-found-3.result (err_from_is_err_and _ c.from_residual-in_err-found-3.ensures.1)
+    (c.in_err-found-3.ensures lead deep opened name demand value_view
+    (c.in_ok-found-2.ensures (expr_words (lead + 1) deep first) (spec.value_of scopes first)
+    (c.in_ok-found.ensures clear (lead + 1) deep)))
 
--- src/functions.rt:129:1
-pub functions::called-returns-in-None : goal.functions::called-returns-in-None
-functions::called-returns-in-None t c = ?
+pub functions::applied-returns : goal.functions::applied-returns
+functions::applied-returns t c clear lead deep opened name =
+    let scopes = scopes_view c.args.scopes.now in
+    let spellings = c.args.scopes.now.spellings.now in
+    let exprs = c.args.arguments.now in
+    let demand = spec.function_demand scopes.outer.types (function_view c.args.function) in
+    let first = expr_in spellings (out-Exprs exprs).first in
+    let found = c.in_ok-found-3.found in
+    let make : SpecValue → SpecValue = typed.applied (function_view c.args.function) in
+    let words = call_words scopes spellings lead deep name opened c.args.closed exprs in
+    let part = sole_part demand (givens scopes spellings lead deep name opened c.args.closed exprs) in
+    ends_moved words (judged part.marks (known make part.value)) (make (value_view found.value))
+    (value_view (code_value.Applied c.args.function c.in_ok-new.field-0)) (end_in found.end) (end_in found.end)
+    (value_view-Applied c.args.function c.in_ok-new.field-0 ∙ ap (λ value. make (value_view value)) c.in_ok-new.ensures)
+    refl
+    (made_ends words make part (value_view found.value) (end_in found.end)
+    (c.in_ok-found-3.ensures lead deep opened name demand value_view
+    (c.in_ok-found-2.ensures (expr_words (lead + 1) deep first) (spec.value_of scopes first)
+    (c.in_ok-found.ensures clear (lead + 1) deep))))
 
--- src/functions.rt:216:20
-pub functions::passed_to-returns-in_err-last : goal.functions::passed_to-returns-in_err-last
-functions::passed_to-returns-in_err-last t c = ?
-
--- src/functions.rt:217:5
-pub functions::passed_to-loop-index-init : goal.functions::passed_to-loop-index-init
-functions::passed_to-loop-index-init t c = ?
-
--- src/functions.rt:218:21
-pub functions::passed_to-returns-in_err-before : goal.functions::passed_to-returns-in_err-before
-functions::passed_to-returns-in_err-before t c = ?
-
--- src/functions.rt:219:16
-pub functions::passed_to-returns-in_err-last-2 : goal.functions::passed_to-returns-in_err-last-2
-functions::passed_to-returns-in_err-last-2 t c = ?
-
--- src/functions.rt:217:5
-pub functions::passed_to-loop-index-preserved : goal.functions::passed_to-loop-index-preserved
-functions::passed_to-loop-index-preserved t c = ?
-
--- src/functions.rt:221:16
-pub functions::passed_to-returns-in_err-last-3 : goal.functions::passed_to-returns-in_err-last-3
-functions::passed_to-returns-in_err-last-3 t c = ?
-
--- src/functions.rt:223:5
-pub functions::passed_to-returns-in_err-demand : goal.functions::passed_to-returns-in_err-demand
-functions::passed_to-returns-in_err-demand t c = ?
-
--- src/functions.rt:200:1
-pub functions::passed_to-returns : goal.functions::passed_to-returns
-functions::passed_to-returns t c = ?
-
--- src/functions.rt:168:30
-pub functions::routine_called-returns-in_err-passed-in-Some-result :
-    goal.functions::routine_called-returns-in_err-passed-in-Some-result
-functions::routine_called-returns-in_err-passed-in-Some-result t c = ?
-
--- src/functions.rt:149:1
-pub functions::routine_called-returns-in_ok-passed-in-Some-result :
-    goal.functions::routine_called-returns-in_ok-passed-in-Some-result
-functions::routine_called-returns-in_ok-passed-in-Some-result t c = ?
-
--- src/functions.rt:149:1
-pub functions::routine_called-returns-in-None-result :
-    goal.functions::routine_called-returns-in-None-result
-functions::routine_called-returns-in-None-result t c = ?
-
--- src/functions.rt:406:17
 pub functions::tested-returns-in_err-found : goal.functions::tested-returns-in_err-found
-functions::tested-returns-in_err-found t c = ?
+functions::tested-returns-in_err-found t c clear lead deep opened name =
+    let scopes = scopes_view c.args.scopes.now in
+    let spellings = c.args.scopes.now.spellings.now in
+    let exprs = c.args.arguments.now in
+    let test = file_test_view c.args.test in
+    let demand = spec.test_demand scopes.outer.types test in
+    let first = expr_in spellings (out-Exprs exprs).first in
+    let why = c.in_err-found.field-0.0 in
+    let words = call_words scopes spellings lead deep name opened c.args.closed exprs in
+    let arguments = givens scopes spellings lead deep name opened c.args.closed exprs in
+    answers_stop words (tested_part scopes.outer.types test arguments) value_view why c.from_residual.result
+    (err_from_is_err_and _ c.from_residual.ensures.1)
+    (tested_stops words scopes.outer.types test arguments why
+    (sole_first scopes spellings lead deep name opened c.args.closed exprs demand why
+    (stopped_fails (expr_words (lead + 1) deep first) (plainly demand) (spec.value_of scopes first) why
+    (c.in_err-found.ensures clear (lead + 1) deep))))
 
--- src/functions.rt:407:16
 pub functions::tested-returns-in_err-file : goal.functions::tested-returns-in_err-file
-functions::tested-returns-in_err-file t c = ?
+functions::tested-returns-in_err-file t c clear lead deep opened name =
+    let scopes = scopes_view c.args.scopes.now in
+    let spellings = c.args.scopes.now.spellings.now in
+    let exprs = c.args.arguments.now in
+    let test = file_test_view c.args.test in
+    let demand = spec.test_demand scopes.outer.types test in
+    let first = expr_in spellings (out-Exprs exprs).first in
+    let why = c.in_err-file.field-0.0 in
+    let words = call_words scopes spellings lead deep name opened c.args.closed exprs in
+    let arguments = givens scopes spellings lead deep name opened c.args.closed exprs in
+    answers_stop words (tested_part scopes.outer.types test arguments) value_view why
+    c.from_residual-in_err-file.result (err_from_is_err_and _ c.from_residual-in_err-file.ensures.1)
+    (tested_stops words scopes.outer.types test arguments why
+    (sole_first scopes spellings lead deep name opened c.args.closed exprs demand why
+    (c.in_err-file.ensures (expr_words (lead + 1) deep first) (spec.value_of scopes first)
+    (c.in_ok-found.ensures clear (lead + 1) deep))))
 
--- src/functions.rt:408:16
 pub functions::tested-returns-in_err-file-2 : goal.functions::tested-returns-in_err-file-2
-functions::tested-returns-in_err-file-2 t c = ?
+functions::tested-returns-in_err-file-2 t c clear lead deep opened name =
+    let scopes = scopes_view c.args.scopes.now in
+    let spellings = c.args.scopes.now.spellings.now in
+    let exprs = c.args.arguments.now in
+    let test = file_test_view c.args.test in
+    let demand = spec.test_demand scopes.outer.types test in
+    let first = expr_in spellings (out-Exprs exprs).first in
+    let why = c.in_err-file-2.field-0.0 in
+    let words = call_words scopes spellings lead deep name opened c.args.closed exprs in
+    let arguments = givens scopes spellings lead deep name opened c.args.closed exprs in
+    answers_stop words (tested_part scopes.outer.types test arguments) value_view why
+    c.from_residual-in_err-file-2.result (err_from_is_err_and _ c.from_residual-in_err-file-2.ensures.1)
+    (tested_stops words scopes.outer.types test arguments why
+    (c.in_err-file-2.ensures lead deep opened name demand
+    (λ (place : code_place.Place). typed.read (place_view place))
+    (c.in_ok-file.ensures (expr_words (lead + 1) deep first) (spec.value_of scopes first)
+    (c.in_ok-found.ensures clear (lead + 1) deep))))
 
--- src/functions.rt:392:1
 pub functions::tested-returns : goal.functions::tested-returns
-functions::tested-returns t c = ?
+functions::tested-returns t c clear lead deep opened name =
+    let scopes = scopes_view c.args.scopes.now in
+    let spellings = c.args.scopes.now.spellings.now in
+    let exprs = c.args.arguments.now in
+    let test = file_test_view c.args.test in
+    let demand = spec.test_demand scopes.outer.types test in
+    let first = expr_in spellings (out-Exprs exprs).first in
+    let file = c.in_ok-file-2.file in
+    let words = call_words scopes spellings lead deep name opened c.args.closed exprs in
+    let arguments = givens scopes spellings lead deep name opened c.args.closed exprs in
+    let stands = c.in_ok-file.ensures (expr_words (lead + 1) deep first) (spec.value_of scopes first)
+    (c.in_ok-found.ensures clear (lead + 1) deep) in
+    ?
+
+pub functions::called_as-returns-in-Routine : goal.functions::called_as-returns-in-Routine
+functions::called_as-returns-in-Routine t c clear is_clear lead deep opened = ?
 
 -- src/variables.rt:129:25
 pub variables::element_of-value_of-requires : goal.variables::element_of-value_of-requires
