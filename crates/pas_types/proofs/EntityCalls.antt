@@ -27,7 +27,7 @@ use Rattle.pas_types.specs.Scopes.{Scopes, Entity, routine, unclear}
 use Rattle.pas_types.specs.NameViews.{entity_view}
 use Rattle.pas_types.specs.Expressions.{Given, Demand, bare_argument, values_of, as_call, not_called, met, asked_nothing}
 use Rattle.pas_types.specs.Expressions.{heading_of, function_call_of, call_with, called, given, demands_of, passed_to, file_in}
-use Rattle.pas_types.specs.Expressions.{is_file, test_demand}
+use Rattle.pas_types.specs.Expressions.{is_file, test_demand, first_value}
 use Rattle.pas_types.specs.inner.Stopping.{shown_in}
 use Rattle.pas_types.specs.inner.Answers.{Ending, EndsAs, StopsBy, StandsAs, Answers}
 use Rattle.pas_types.specs.inner.Arguments.{taken_as, plainly, passing_part, called_part, sole_part}
@@ -36,7 +36,8 @@ use Rattle.pas_types.specs.declared.judged.Judged.{Judged as CodeJudged}
 use Rattle.pas_types.proofs.AsMany.{count, total, followed_count}
 use Rattle.pas_types.proofs.EndLemmas.{stops_within}
 use Rattle.pas_types.proofs.ExpressionsAsMany.{not_called_count, plain_marks, values_total}
-use Rattle.pas_types.proofs.ArgumentLemmas.{some_known}
+use Rattle.std.proofs.lemmas.Option.{none-some}
+use Rattle.pas_types.proofs.ListedLemmas.{some_both}
 use Rattle.pas_types.proofs.FitLemmas.{checked_met}
 
 -- a name that may not be called so
@@ -148,19 +149,33 @@ tested_stops words table test arguments why h =
     other_stops words (sole_part (test_demand table test) arguments) _ why
     (λ none. ap (λ (found : Option Value). known (typed.tested test) (option_and_then (file_in table) found)) none) h
 
-pub tested_ends : (words first : List Word) (table : Table) (test : FileTest) (arguments : List Given)
-    (value : Judged Value) (place : Place) (end last : Ending)
-    → StandsAs first (taken_as (plainly (test_demand table test)) value) (typed.read place) last
-    → EndsAs words (sole_part (test_demand table test) arguments) (typed.read place) end
+-- what is known of the only argument meets the demand on it
+sole_met : (demand : Demand) (arguments : List Given) (value : Value)
+    → (sole_part demand arguments).value ≡ Some value → demand value ≡ []
+sole_met demand [] value h = absurd (none-some value h)
+sole_met demand (argument ∷ arguments) value h = by (given (demand ∷ []) (argument ∷ arguments)) refl h
+  where
+    by : (found : Option (List Value)) → given (demand ∷ []) (argument ∷ arguments) ≡ found
+        → option_and_then first_value found ≡ Some value → demand value ≡ []
+    by None is h = absurd (none-some value h)
+    by (Some []) is h = absurd (none-some value h)
+    by (Some (first ∷ others)) is h =
+        let parts = some_both (λ value values. value ∷ values) (met demand argument).value (given [] arguments)
+        (first ∷ others) is in
+        let one = some_both (λ value nothing. value) (checked demand argument.value).value argument.behind.value parts.0
+        parts.2 in
+        let met : demand one.0 ≡ [] = checked_met demand argument.value one.0 one.2 in
+        let same : one.0 ≡ value = cc in
+        subst (λ (v : Value). demand v ≡ []) same met
+
+pub tested_ends : (words : List Word) (table : Table) (test : FileTest) (arguments : List Given) (place : Place)
+    (end : Ending) → EndsAs words (sole_part (test_demand table test) arguments) (typed.read place) end
     → EndsAs words (tested_part table test arguments) (typed.tested test place) end
-tested_ends words first table test arguments value place end last stands h =
-    let demand : Demand = test_demand table test in
-    let one = some_known (λ value. value) (checked demand value).value (typed.read place) stands.ends.known in
-    let is : demand (typed.read place) ≡ [] =
-    checked_met demand value (typed.read place) (one.1 ∙ ap Some one.2) in
+tested_ends words table test arguments place end h =
     record {
       known = ap (λ (found : Option Value). known (typed.tested test) (option_and_then (file_in table) found)) h.known
-          ∙ ap (known (typed.tested test)) (asked_file table test place is);
+          ∙ ap (known (typed.tested test)) (asked_file table test place
+          (sole_met (test_demand table test) arguments (typed.read place) h.known));
       end = h.end;
       behind = h.behind;
     }

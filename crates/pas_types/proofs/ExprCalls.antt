@@ -1,5 +1,5 @@
 -- What functions that check the code's calls of functions answer, by what they answer of the arguments.
-use Rattle.std.proofs.Common.{◌≡◌, refl, sym, ap, subst, ◌∙◌, ℕ, suc, ◌+◌, ◌<◌, ◌≤◌, arith, Bool, true, false, List, []}
+use Rattle.std.proofs.Common.{◌≡◌, refl, sym, ap, subst, ◌∙◌, ℕ, zero, suc, ◌+◌, ◌<◌, ◌≤◌, arith, Bool, true, false, List, []}
 use Rattle.std.proofs.Common.{◌∷◌, ◌++◌, length, map, take, drop, get_or, Option, Some, None, Result, Ok, Err}
 use Rattle.std.specs.Prelude.{nat_le, slice_get, option_map}
 use Rattle.std.proofs.lemmas.Option.{none-some}
@@ -42,6 +42,21 @@ got_none (x ∷ xs) h = absurd (none-some x h)
 got_first : {A : Type 0} (xs : List A) (x : A) → Some x ≡ slice_get xs 0 → xs ≡ x ∷ drop 1 xs
 got_first [] x h = absurd (none-some x (sym h))
 got_first (first ∷ xs) x h = let same : x ≡ first = cc in ap (λ (head : _). head ∷ xs) (sym same)
+
+pub taken_split : {A : Type 0} (xs all : List A) (i : ℕ) (x : A) → xs ≡ all → i < length xs → x ≡ get_or xs i x
+    → all ≡ take i xs ++ x ∷ drop (suc i) xs
+taken_split {A = A} xs all i x same within at =
+    sym same ∙ split xs i within ∙ ap (λ (item : A). take i xs ++ item ∷ drop (suc i) xs) (sym at)
+  where
+    split : (xs : List A) (i : ℕ) → i < length xs → xs ≡ take i xs ++ get_or xs i x ∷ drop (suc i) xs
+    split [] i h = absurd (omega (arith, h))
+    split (first ∷ xs) zero h = refl
+    split (first ∷ xs) (suc i) h = ap (λ rest. first ∷ rest) (split xs i (omega (arith, h)))
+
+pub taken_count : {A : Type 0} (xs : List A) (i : ℕ) → i ≤ length xs → length (take i xs) ≡ i
+taken_count xs zero h = refl
+taken_count [] (suc i) h = absurd (omega (arith, h))
+taken_count (x ∷ xs) (suc i) h = ap suc (taken_count xs i (omega (arith, h)))
 
 module _ (scopes : Scopes) (spellings : List ℕ) (lead deep : ℕ) (name : Ident) (opened closed : ℕ)
     (exprs : code_exprs.Exprs) where

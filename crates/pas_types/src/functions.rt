@@ -183,8 +183,7 @@ fn routine_called(
     match scopes.heading_of(number) {
         Some(heading) => match heading.result {
             Some(pas_type) => {
-                let parameters = heading.parameters.as_slice();
-                let passed = passed_to(scopes, parameters, arguments, closed)?;
+                let passed = passed_to(scopes, &heading.parameters, arguments, closed)?;
                 call_of(scopes, number, pas_type, passed)
             }
             None => Err(fault(WRONG_TYPE, name.line)),
@@ -219,7 +218,7 @@ fn call_of(
 #[cycle(expression)]
 fn passed_to(
     scopes: &Scopes<'_>,
-    parameters: &[Variable],
+    parameters: &Items<Variable>,
     arguments: &Exprs,
     closed: u32,
 ) -> Result<Judged<Items<Passed>>, Stop>
@@ -232,7 +231,7 @@ fn passed_to(
         passed_views result }
 {
     let mut passed = Items::new(scopes.alloc);
-    let mut last = argument_of(scopes, parameters.first(), &arguments.first)?;
+    let mut last = argument_of(scopes, parameters.get(0), &arguments.first)?;
     for (index, more) in arguments.more.as_slice().iter().enumerate() {
         passed.push(last.before(more.line)?)?;
         last = argument_of(scopes, parameters.get(index + 1), &more.value)?;

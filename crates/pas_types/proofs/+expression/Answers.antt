@@ -27,10 +27,33 @@ use Rattle.pas_typed.specs.declared.typed.Value.TheVariants as code_value
 use Rattle.pas_typed.specs.TypedViews.{function_view, file_test_view}
 use Rattle.pas_typed.proofs.ValueViews.{value_view-Applied, value_view-Tested}
 use Rattle.pas_types.specs.Marks.{judged, known}
-use Rattle.pas_types.proofs.EntityCalls.{tested_part, tested_stops, tested_ends, stop_made}
+use Rattle.std.proofs.Common.{arith, suc, take, drop, map, Option, Some}
+use Rattle.std.specs.Prelude.{slice_get, nat_le}
+use Rattle.wb_base.specs.declared.faults.TheConstants.{UNKNOWN_NAME}
+use Rattle.pas_tokens.specs.Cutting.{wrong}
+use Rattle.pas_syntax.specs.Tree.{Factor}
+use Rattle.pas_syntax.specs.Views.{exprs_in}
+use Rattle.pas_syntax.specs.declared.tree.MoreExpr as code_more
+use Rattle.pas_syntax.specs.declared.tree.Expr.TheViews.{out-FunctionCall}
+use Rattle.pas_typed.specs.declared.typed.Passed as code_passed
+use Rattle.pas_typed.specs.declared.typed.Variable.{Variable as CodeVariable}
+use Rattle.pas_typed.specs.TypeViews.{type_view}
+use Rattle.pas_typed.specs.TypedViews.{passed_views, variable_view}
+use Rattle.pas_types.specs.declared.names.Entity.{Entity as CodeEntity}
+use Rattle.pas_types.specs.Scopes.{Entity}
+use Rattle.pas_types.specs.NameViews.{entity_view}
+use Rattle.pas_types.specs.inner.Stopping.{demanded}
+use Rattle.pas_types.specs.inner.Answers.{StopsBy}
+use Rattle.pas_types.specs.inner.Arguments.{passing_part}
+use Rattle.pas_types.proofs.LabelSeen.{taken_more, taken_all}
+use Rattle.pas_types.proofs.ExprSeen.{call_seen}
+use Rattle.pas_types.proofs.EntityCalls.{tested_part, tested_stops, tested_ends, stop_made, other_call, refused_call}
+use Rattle.pas_types.proofs.EntityCalls.{function_part, procedure_part}
+use Rattle.pas_types.proofs.ExprCalls.{passing, SoFar, first_stops, begun, more_unsettled, more_stops, one_more}
+use Rattle.pas_types.proofs.ExprCalls.{too_few_stop, all_end, taken_split, taken_count}
 use Rattle.pas_types.proofs.ExprCalls.{call_words, givens, sole_first}
 use Rattle.pas_types.proofs.AnswerLemmas.{stands_stop, answers_stop, ends_moved, made_ends}
-use Rattle.pas_types.proofs.CallAnswers.{stopped_fails}
+use Rattle.pas_types.proofs.CallAnswers.{stopped_fails, stands_never}
 use Rattle.pas_types.proofs.FitLemmas.{seen_parameter, no_parameter}
 use Rattle.pas_types.proofs.+expression.Goals as goal
 
@@ -202,7 +225,7 @@ functions::argument_of-returns-in-None t c clear lead deep =
     let spellings = c.args.scopes.now.spellings.now in
     let expr = expr_in spellings c.args.expr.now in
     no_parameter spellings scopes.outer.types (expr_words lead deep expr) (spec.value_of scopes expr)
-    c.args.parameter.entry (ap option_copied c.in-None.is) c.one_too_many.result
+    (option_copied c.args.parameter) (ap option_copied c.in-None.is) c.one_too_many.result
     (c.one_too_many.ensures.fails lead deep)
 
 
@@ -340,12 +363,283 @@ functions::tested-returns t c clear lead deep opened name =
     let file = c.in_ok-file-2.file in
     let words = call_words scopes spellings lead deep name opened c.args.closed exprs in
     let arguments = givens scopes spellings lead deep name opened c.args.closed exprs in
-    let stands = c.in_ok-file.ensures (expr_words (lead + 1) deep first) (spec.value_of scopes first)
-    (c.in_ok-found.ensures clear (lead + 1) deep) in
-    ?
+    ends_moved words (tested_part scopes.outer.types test arguments) (typed.tested test (place_view file.value))
+    (value_view (code_value.Tested c.args.test file.value)) (end_in file.end) (end_in file.end)
+    (value_view-Tested c.args.test file.value) refl
+    (tested_ends words scopes.outer.types test arguments (place_view file.value) (end_in file.end)
+    (c.in_ok-file-2.ensures lead deep opened name demand
+    (λ (place : code_place.Place). typed.read (place_view place))
+    (c.in_ok-file.ensures (expr_words (lead + 1) deep first) (spec.value_of scopes first)
+    (c.in_ok-found.ensures clear (lead + 1) deep))))
 
 pub functions::called_as-returns-in-Routine : goal.functions::called_as-returns-in-Routine
-functions::called_as-returns-in-Routine t c clear is_clear lead deep opened = ?
+functions::called_as-returns-in-Routine t c clear is_clear lead deep opened =
+    let spellings = c.args.scopes.now.spellings.now in
+    let scopes = scopes_view c.args.scopes.now in
+    let exprs = c.args.arguments.now in
+    let closed = c.args.closed in
+    let name = ident_in spellings c.args.name in
+    subst (λ (entity : CodeEntity). Answers (call_words scopes spellings lead deep name opened closed exprs)
+    (spec.as_call scopes (givens scopes spellings lead deep name opened closed exprs) (Some (entity_view entity)))
+    value_view c.routine_called.result) (sym c.in-Routine.is) (c.routine_called.ensures clear lead deep opened)
+
+pub functions::called_as-returns-in-Function : goal.functions::called_as-returns-in-Function
+functions::called_as-returns-in-Function t c clear is_clear lead deep opened =
+    let spellings = c.args.scopes.now.spellings.now in
+    let scopes = scopes_view c.args.scopes.now in
+    let exprs = c.args.arguments.now in
+    let closed = c.args.closed in
+    let name = ident_in spellings c.args.name in
+    subst (λ (entity : CodeEntity). Answers (call_words scopes spellings lead deep name opened closed exprs)
+    (spec.as_call scopes (givens scopes spellings lead deep name opened closed exprs) (Some (entity_view entity)))
+    value_view c.applied.result) (sym c.in-Function.is) (c.applied.ensures clear lead deep opened name)
+
+pub functions::called_as-returns-in-FileTest : goal.functions::called_as-returns-in-FileTest
+functions::called_as-returns-in-FileTest t c clear is_clear lead deep opened =
+    let spellings = c.args.scopes.now.spellings.now in
+    let scopes = scopes_view c.args.scopes.now in
+    let exprs = c.args.arguments.now in
+    let closed = c.args.closed in
+    let name = ident_in spellings c.args.name in
+    subst (λ (entity : CodeEntity). Answers (call_words scopes spellings lead deep name opened closed exprs)
+    (spec.as_call scopes (givens scopes spellings lead deep name opened closed exprs) (Some (entity_view entity)))
+    value_view c.tested.result) (sym c.in-FileTest.is) (c.tested.ensures clear lead deep opened name)
+
+pub functions::called_as-returns-in_default : goal.functions::called_as-returns-in_default
+functions::called_as-returns-in_default t c clear is_clear lead deep opened =
+    let spellings = c.args.scopes.now.spellings.now in
+    let scopes = scopes_view c.args.scopes.now in
+    let exprs = c.args.arguments.now in
+    let closed = c.args.closed in
+    let name = ident_in spellings c.args.name in
+    subst (λ part. StopsBy (call_words scopes spellings lead deep name opened closed exprs) part c.fault.result)
+    (sym (other_call scopes (givens scopes spellings lead deep name opened closed exprs) c.args.entity
+    c.in_default.not-Routine c.in_default.not-Function c.in_default.not-FileTest is_clear))
+    (subst (StopsBy (call_words scopes spellings lead deep name opened closed exprs)
+    (judged {A = SpecValue} (spec.not_called (wrong WRONG_TYPE_CODE ∷ [])
+    (givens scopes spellings lead deep name opened closed exprs)) None)) (sym c.fault.ensures)
+    (refused_call scopes lead deep name opened (exprs_in spellings exprs) closed (wrong WRONG_TYPE_CODE)))
+
+pub functions::called-returns-in-Some : goal.functions::called-returns-in-Some
+functions::called-returns-in-Some t c clear lead deep =
+    let spellings = c.args.scopes.now.spellings.now in
+    let scopes = scopes_view c.args.scopes.now in
+    let call = out-FunctionCall c.args.call.now in
+    let name = ident_in spellings call.name in
+    subst (λ (factor : Factor). Answers (factor_words lead deep factor) (spec.factor_of scopes factor) value_view
+    c.called_as.result) (sym (call_seen spellings c.args.call.now))
+    (subst (λ (entity : Option Entity). Answers
+    (call_words scopes spellings lead deep name call.opened call.closed call.arguments)
+    (spec.as_call scopes (givens scopes spellings lead deep name call.opened call.closed call.arguments) entity)
+    value_view c.called_as.result) c.in-Some.ensures.entity
+    (c.called_as.ensures clear
+    (λ is. clear name.name (sym c.in-Some.ensures.entity ∙ ap Some is)) lead deep call.opened))
+
+pub functions::called-returns-in-None : goal.functions::called-returns-in-None
+functions::called-returns-in-None t c clear lead deep =
+    let spellings = c.args.scopes.now.spellings.now in
+    let scopes = scopes_view c.args.scopes.now in
+    let call = out-FunctionCall c.args.call.now in
+    let name = ident_in spellings call.name in
+    let words = call_words scopes spellings lead deep name call.opened call.closed call.arguments in
+    let arguments = givens scopes spellings lead deep name call.opened call.closed call.arguments in
+    subst (λ (factor : Factor). StopsBy (factor_words lead deep factor) (spec.factor_of scopes factor)
+    c.fault.result) (sym (call_seen spellings c.args.call.now))
+    (subst (λ (entity : Option Entity). StopsBy words (spec.as_call scopes arguments entity) c.fault.result)
+    c.in-None.ensures.entity
+    (subst (StopsBy words (judged {A = SpecValue} (spec.not_called (wrong UNKNOWN_NAME ∷ []) arguments) None))
+    (sym c.fault.ensures)
+    (refused_call scopes lead deep name call.opened (exprs_in spellings call.arguments) call.closed
+    (wrong UNKNOWN_NAME))))
+
+pub functions::routine_called-returns-in_err-passed-in-Some-result :
+    goal.functions::routine_called-returns-in_err-passed-in-Some-result
+functions::routine_called-returns-in_err-passed-in-Some-result t c clear lead deep opened =
+    let spellings = c.args.scopes.now.spellings.now in
+    let scopes = scopes_view c.args.scopes.now in
+    let exprs = c.args.arguments.now in
+    let closed = c.args.closed in
+    let name = ident_in spellings c.args.name in
+    let words = call_words scopes spellings lead deep name opened closed exprs in
+    let arguments = givens scopes spellings lead deep name opened closed exprs in
+    let why = c.in_err-passed-in-Some-result.field-0.0 in
+    function_part scopes spellings arguments c.args.number c.in-Some.heading.now c.in-Some.ensures
+    c.in-Some-result.pas_type c.in-Some-result.is
+    (λ part. Answers words part value_view c.from_residual.result)
+    (stop_made words (typed.call c.args.number (type_view c.in-Some-result.pas_type))
+    (passing_part scopes.outer.types (map (variable_view spellings) c.in-Some.heading.now.parameters) arguments)
+    value_view why c.from_residual.result (err_from_is_err_and _ c.from_residual.ensures.1)
+    (c.in_err-passed-in-Some-result.ensures clear lead deep opened name))
+
+pub functions::routine_called-returns-in_ok-passed-in-Some-result :
+    goal.functions::routine_called-returns-in_ok-passed-in-Some-result
+functions::routine_called-returns-in_ok-passed-in-Some-result t c clear lead deep opened =
+    let spellings = c.args.scopes.now.spellings.now in
+    let scopes = scopes_view c.args.scopes.now in
+    let exprs = c.args.arguments.now in
+    let closed = c.args.closed in
+    let name = ident_in spellings c.args.name in
+    let words = call_words scopes spellings lead deep name opened closed exprs in
+    let arguments = givens scopes spellings lead deep name opened closed exprs in
+    let passed = c.in_ok-passed-in-Some-result.passed in
+    let part = passing_part scopes.outer.types (map (variable_view spellings) c.in-Some.heading.now.parameters)
+    arguments in
+    function_part scopes spellings arguments c.args.number c.in-Some.heading.now c.in-Some.ensures
+    c.in-Some-result.pas_type c.in-Some-result.is
+    (λ part. Answers words part value_view c.call_of.result)
+    (c.call_of.ensures words part (c.in_ok-passed-in-Some-result.ensures clear lead deep opened name))
+
+pub functions::routine_called-returns-in-None-result : goal.functions::routine_called-returns-in-None-result
+functions::routine_called-returns-in-None-result t c clear lead deep opened =
+    let spellings = c.args.scopes.now.spellings.now in
+    let scopes = scopes_view c.args.scopes.now in
+    let exprs = c.args.arguments.now in
+    let closed = c.args.closed in
+    let name = ident_in spellings c.args.name in
+    let words = call_words scopes spellings lead deep name opened closed exprs in
+    let arguments = givens scopes spellings lead deep name opened closed exprs in
+    procedure_part scopes spellings arguments c.args.number c.in-Some.heading.now c.in-Some.ensures
+    c.in-None-result.is (λ part. StopsBy words part c.fault.result)
+    (subst (StopsBy words (judged {A = SpecValue} (spec.not_called (wrong WRONG_TYPE_CODE ∷ []) arguments) None))
+    (sym c.fault.ensures)
+    (refused_call scopes lead deep name opened (exprs_in spellings exprs) closed (wrong WRONG_TYPE_CODE)))
+
+pub functions::passed_to-returns-in_err-last : goal.functions::passed_to-returns-in_err-last
+functions::passed_to-returns-in_err-last t c clear lead deep opened name =
+    let spellings = c.args.scopes.now.spellings.now in
+    let scopes = scopes_view c.args.scopes.now in
+    let exprs = c.args.arguments.now in
+    let closed = c.args.closed in
+    let table = scopes.outer.types in
+    let why = c.in_err-last.field-0.0 in
+    answers_stop (call_words scopes spellings lead deep name opened closed exprs)
+    (passing scopes spellings lead deep name opened closed exprs table c.args.parameters.now) passed_views why
+    c.from_residual.result (err_from_is_err_and _ c.from_residual.ensures.1)
+    (first_stops scopes spellings lead deep name opened closed exprs table c.args.parameters.now
+    (option_copied c.get.result) why c.get.ensures.value (c.in_err-last.ensures clear (lead + 1) deep))
+
+pub functions::passed_to-loop-index-init : goal.functions::passed_to-loop-index-init
+functions::passed_to-loop-index-init t c clear lead deep opened name =
+    let spellings = c.args.scopes.now.spellings.now in
+    let scopes = scopes_view c.args.scopes.now in
+    let exprs = c.args.arguments.now in
+    let closed = c.args.closed in
+    let table = scopes.outer.types in
+    subst (λ (passed : List code_passed.Passed). SoFar scopes spellings lead deep name opened closed exprs table
+    c.args.parameters.now [] passed c.in_ok-last.last) (sym c.new-passed.ensures)
+    (begun scopes spellings lead deep name opened closed exprs table c.args.parameters.now
+    (option_copied c.get.result) c.in_ok-last.last c.get.ensures.value
+    (c.in_ok-last.ensures clear (lead + 1) deep))
+
+pub functions::passed_to-returns-in_err-before : goal.functions::passed_to-returns-in_err-before
+functions::passed_to-returns-in_err-before t c clear lead deep opened name =
+    let spellings = c.args.scopes.now.spellings.now in
+    let scopes = scopes_view c.args.scopes.now in
+    let exprs = c.args.arguments.now in
+    let closed = c.args.closed in
+    let table = scopes.outer.types in
+    let items = c.as_slice-more-items.result.now in
+    let i = c.loop-index.index in
+    let why = c.in_err-before.field-0.0 in
+    answers_stop (call_words scopes spellings lead deep name opened closed exprs)
+    (passing scopes spellings lead deep name opened closed exprs table c.args.parameters.now) passed_views why
+    c.from_residual-in_err-before.result (err_from_is_err_and _ c.from_residual-in_err-before.ensures.1)
+    (more_unsettled scopes spellings lead deep name opened closed exprs table c.args.parameters.now
+    (take i items) c.loop-index.passed c.loop-index.last (c.loop-index.invariant clear lead deep opened name)
+    c.more-item.result (drop (suc i) items) why
+    (taken_split items (out-Exprs exprs).more i c.more-item.result c.as_slice-more-items.ensures c.loop-index-test.true
+    c.more-item.is) c.in_err-before.ensures)
+
+pub functions::passed_to-returns-in_err-last-2 : goal.functions::passed_to-returns-in_err-last-2
+functions::passed_to-returns-in_err-last-2 t c clear lead deep opened name =
+    let spellings = c.args.scopes.now.spellings.now in
+    let scopes = scopes_view c.args.scopes.now in
+    let exprs = c.args.arguments.now in
+    let closed = c.args.closed in
+    let table = scopes.outer.types in
+    let items = c.as_slice-more-items.result.now in
+    let i = c.loop-index.index in
+    let why = c.in_err-last-2.field-0.0 in
+    answers_stop (call_words scopes spellings lead deep name opened closed exprs)
+    (passing scopes spellings lead deep name opened closed exprs table c.args.parameters.now) passed_views why
+    c.from_residual-in_err-last-2.result (err_from_is_err_and _ c.from_residual-in_err-last-2.ensures.1)
+    (more_stops scopes spellings lead deep name opened closed exprs table c.args.parameters.now
+    (take i items) c.loop-index.passed c.loop-index.last (c.loop-index.invariant clear lead deep opened name)
+    c.more-item.result c.in_ok-before.field-0 c.in_ok-before.ensures (option_copied c.get-in-loop-index.result)
+    (c.get-in-loop-index.ensures.value ∙ ap (λ (n : ℕ). slice_get c.args.parameters.now (n + 1))
+    (sym (taken_count items i (omega (arith, c.loop-index-test.true)))))
+    (drop (suc i) items) why
+    (taken_split items (out-Exprs exprs).more i c.more-item.result c.as_slice-more-items.ensures c.loop-index-test.true
+    c.more-item.is) (c.in_err-last-2.ensures clear (lead + 1) deep))
+
+pub functions::passed_to-loop-index-preserved : goal.functions::passed_to-loop-index-preserved
+functions::passed_to-loop-index-preserved t c clear lead deep opened name =
+    let spellings = c.args.scopes.now.spellings.now in
+    let scopes = scopes_view c.args.scopes.now in
+    let exprs = c.args.arguments.now in
+    let closed = c.args.closed in
+    let table = scopes.outer.types in
+    let items = c.as_slice-more-items.result.now in
+    let i = c.loop-index.index in
+    let last = c.in_ok-last-2.last in
+    subst (λ (done : List code_more.MoreExpr). SoFar scopes spellings lead deep name opened closed exprs table
+    c.args.parameters.now done c.push.new.self last)
+    (sym (taken_more items i c.more-item.result c.loop-index-test.true c.more-item.is))
+    (subst (λ (passed : List code_passed.Passed). SoFar scopes spellings lead deep name opened closed exprs table
+    c.args.parameters.now (take i items ++ c.more-item.result ∷ []) passed last) (sym c.in_ok-push.ensures.ok)
+    (one_more scopes spellings lead deep name opened closed exprs table c.args.parameters.now
+    (take i items) c.loop-index.passed c.loop-index.last (c.loop-index.invariant clear lead deep opened name)
+    c.more-item.result c.in_ok-before.field-0 c.in_ok-before.ensures (option_copied c.get-in-loop-index.result)
+    (c.get-in-loop-index.ensures.value ∙ ap (λ (n : ℕ). slice_get c.args.parameters.now (n + 1))
+    (sym (taken_count items i (omega (arith, c.loop-index-test.true))))) last
+    (c.in_ok-last-2.ensures clear (lead + 1) deep)))
+
+pub functions::passed_to-returns-in_err-last-3 : goal.functions::passed_to-returns-in_err-last-3
+functions::passed_to-returns-in_err-last-3 t c clear lead deep opened name =
+    let so_far = c.loop-index.invariant clear lead deep opened name in
+    let end = end_in c.loop-index.last.end in
+    absurd (stands_never end.line end.refusal c.in_err-last-3.field-0.0 so_far.lawful c.in_err-last-3.ensures)
+
+pub functions::passed_to-returns-in_err-demand : goal.functions::passed_to-returns-in_err-demand
+functions::passed_to-returns-in_err-demand t c clear lead deep opened name =
+    let spellings = c.args.scopes.now.spellings.now in
+    let scopes = scopes_view c.args.scopes.now in
+    let exprs = c.args.arguments.now in
+    let closed = c.args.closed in
+    let table = scopes.outer.types in
+    let items = c.as_slice-more-items.result.now in
+    let why = c.in_err-demand.field-0.0 in
+    answers_stop (call_words scopes spellings lead deep name opened closed exprs)
+    (passing scopes spellings lead deep name opened closed exprs table c.args.parameters.now) passed_views why
+    c.from_residual-in_err-demand.result (err_from_is_err_and _ c.from_residual-in_err-demand.ensures.1)
+    (too_few_stop scopes spellings lead deep name opened closed exprs table c.args.parameters.now
+    c.loop-index.passed c.push-2.new.self c.loop-index.last
+    (subst (λ (done : List code_more.MoreExpr). SoFar scopes spellings lead deep name opened closed exprs table
+    c.args.parameters.now done c.loop-index.passed c.loop-index.last)
+    (taken_all items c.loop-index.index c.loop-index-test.false ∙ c.as_slice-more-items.ensures)
+    (c.loop-index.invariant clear lead deep opened name))
+    (c.in_ok-push-2.ensures.ok ∙ ap (λ found. c.loop-index.passed ++ found ∷ []) c.in_ok-last-3.ensures.1) why
+    (c.in_err-demand.ensures
+    ∙ ap (λ (n : ℕ). demanded (nat_le (length c.args.parameters.now) n) WRONG_TYPE_CODE closed) c.len.ensures))
+
+pub functions::passed_to-returns : goal.functions::passed_to-returns
+functions::passed_to-returns t c clear lead deep opened name =
+    let spellings = c.args.scopes.now.spellings.now in
+    let scopes = scopes_view c.args.scopes.now in
+    let exprs = c.args.arguments.now in
+    let closed = c.args.closed in
+    let table = scopes.outer.types in
+    let items = c.as_slice-more-items.result.now in
+    all_end scopes spellings lead deep name opened closed exprs table c.args.parameters.now
+    c.loop-index.passed c.push-2.new.self c.loop-index.last
+    (subst (λ (done : List code_more.MoreExpr). SoFar scopes spellings lead deep name opened closed exprs table
+    c.args.parameters.now done c.loop-index.passed c.loop-index.last)
+    (taken_all items c.loop-index.index c.loop-index-test.false ∙ c.as_slice-more-items.ensures)
+    (c.loop-index.invariant clear lead deep opened name))
+    (c.in_ok-push-2.ensures.ok ∙ ap (λ found. c.loop-index.passed ++ found ∷ []) c.in_ok-last-3.ensures.1)
+    (end_in c.in_ok-last-3.last.end) c.in_ok-last-3.ensures.2
+    (c.in_ok-demand.ensures
+    ∙ ap (λ (n : ℕ). demanded (nat_le (length c.args.parameters.now) n) WRONG_TYPE_CODE closed) c.len.ensures)
 
 -- src/variables.rt:129:25
 pub variables::element_of-value_of-requires : goal.variables::element_of-value_of-requires

@@ -18,11 +18,17 @@ use Rattle.pas_types.specs.ScopeViews.{scopes_view, IsClear}
 use Rattle.pas_types.specs.inner.Ends.{Ends}
 use Rattle.pas_types.specs.inner.Answers.{end_in, noted_end, EndsAs, Answers}
 use Rattle.pas_types.specs.inner.ExpressionAnswers.{parenthesized_of, char_value}
+use Rattle.std.proofs.Common.{take}
+use Rattle.pas_syntax.specs.Tree.{Ident}
+use Rattle.pas_types.proofs.ExprCalls.{SoFar}
 use Rattle.pas_types.proofs.+expression.Given as goal
 
 abbrev pub invariant-functions::passed_to-loop-index :
     goal.invariant-functions::passed_to-loop-index
-invariant-functions::passed_to-loop-index l = ?
+invariant-functions::passed_to-loop-index l =
+    IsClear (scopes_view l.scopes) → (lead deep opened : ℕ) → (name : Ident)
+    → SoFar (scopes_view l.scopes) l.scopes.spellings.now lead deep name opened l.closed l.arguments
+    (scopes_view l.scopes).outer.types l.parameters (take l.index l.more-items) l.passed l.last
 
 abbrev pub invariant-variables::elements_of-loop-more :
     goal.invariant-variables::elements_of-loop-more
