@@ -22,3 +22,5 @@ pub mod TypePartLemmas
 pub mod ExpressionWords
 pub mod OperatorLemmas
 pub mod PlaceLemmas
+pub mod ExpressionSeen
+pub mod SelectLemmas

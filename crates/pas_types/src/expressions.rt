@@ -45,7 +45,8 @@ pub(crate) fn value_of(scopes: &Scopes<'_>, expr: &Expr) -> Result<Judged<Value>
     match expr {
         Expr::Sum(sum) => sum_of(scopes, sum),
         Expr::Relation(left, relation, right) => {
-            let first = ordinal(scopes, sum_of(scopes, left.get())?).before(relation.line)?;
+            let first = sum_of(scopes, left.get())?;
+            let first = ordinal(scopes, first).before(relation.line)?;
             let second = sum_of(scopes, right.get())?;
             comparison_of(scopes, first, relation.item, second)
         }

@@ -85,7 +85,8 @@ pub(crate) fn argument_of(
     expr: &Expr,
 ) -> Result<Judged<Passed>, Stop>
     ensures { IsClear (scopes_view scopes.now) → (lead deep : ℕ)
-        → Passes (expr_words lead deep (expr_in scopes.now.spellings.now expr.now)) (scopes_view scopes.now).outer.types
+        → Passes (expr_words lead deep (expr_in scopes.now.spellings.now expr.now))
+        (scopes_view scopes.now).outer.types
         (option_map (variable_view scopes.now.spellings.now) (option_copied parameter.entry))
         (spec.value_of (scopes_view scopes.now) (expr_in scopes.now.spellings.now expr.now)) result }
 {
