@@ -61,7 +61,7 @@ pub(crate) fn place_of(scopes: &Scopes<'_>, variable: &Variable) -> Result<Judge
 }
 
 // What a name means as a place: a whole variable.
-pub(crate) fn variable_named(scopes: &Scopes<'_>, ident: Ident) -> Result<Judged<Place>, Stop>
+fn variable_named(scopes: &Scopes<'_>, ident: Ident) -> Result<Judged<Place>, Stop>
     ensures { IsClear (scopes_view scopes.now) → (n : ℕ)
         → Answers (name_at n (ident_in scopes.now.spellings.now ident) ∷ [])
         (spec.as_place (entity_of (scopes_view scopes.now) (ident_in scopes.now.spellings.now ident).name)) place_view
@@ -74,7 +74,7 @@ pub(crate) fn variable_named(scopes: &Scopes<'_>, ident: Ident) -> Result<Judged
     }
 }
 
-// A part of a place.
+// The part of a place that a selector selects.
 #[cycle(expression)]
 fn select(
     scopes: &Scopes<'_>,
@@ -178,7 +178,7 @@ fn element_by(
     })
 }
 
-// A place that is an array.
+// A place that must be an array.
 fn array_of(scopes: &Scopes<'_>, found: Judged<Place>) -> Judged<Place>
     ensures value { result.value ≡ found.value }
     ensures end { end_in result.end ≡ noted_end
@@ -190,7 +190,7 @@ fn array_of(scopes: &Scopes<'_>, found: Judged<Place>) -> Judged<Place>
     found.noted(is_array, WRONG_TYPE)
 }
 
-// A place that is a record.
+// A place that must be a record.
 fn record_of(scopes: &Scopes<'_>, found: Judged<Place>) -> Judged<Place>
     ensures value { result.value ≡ found.value }
     ensures end { end_in result.end ≡ noted_end
@@ -280,7 +280,7 @@ fn field_number(scopes: &Scopes<'_>, fields: &[Field], name: &[u8]) -> Option<us
         .position(|field| scopes.spelling(field.name) == name)
 }
 
-// A part of a place.
+// The part of a place that is selected so.
 fn with_part(place: Place, part: Part) -> Result<Place, AllocError>
     ensures { IfOk result (λ found. place_view found ≡ part_view part (place_view place)) }
 {
