@@ -3,13 +3,12 @@ use Rattle.std.proofs.Common.{◌≡◌, refl, sym, ap, subst, ◌∙◌, ℕ, z
 use Rattle.std.proofs.Common.{◌∷◌, ◌++◌, length, map, Option, Some, None}
 use Rattle.std.specs.Prelude.{⊤, nat_le, slice_get}
 use Rattle.std.proofs.lemmas.Option.{none-some}
-use Rattle.std.proofs.lemmas.Bool.Decides.{nat_tests}
 use Rattle.wb_base.specs.declared.faults.TheConstants.{WRONG_TYPE}
 use Rattle.pas_tokens.specs.Cutting.{Wrong, wrong}
 use Rattle.pas_syntax.specs.Words.{Word}
 use Rattle.pas_typed.specs.Typed.{Value}
 use Rattle.pas_types.specs.declared.stop.Stop.{Stop}
-use Rattle.pas_types.specs.Marks.{Marks, no_token, quiet, shows, followed, joined, listed, unless, Judged, judged, known}
+use Rattle.pas_types.specs.Marks.{Marks, quiet, shows, joined, listed, unless, Judged, judged, known}
 use Rattle.pas_types.specs.Marks.{both}
 use Rattle.pas_types.specs.Expressions.{Demand, Given, met, asked_nothing, argument_marks, given, called}
 use Rattle.pas_types.specs.inner.Stopping.{shown_in}
@@ -126,9 +125,11 @@ module _ {B : Type 0} (argued : Argued) where
   items_split (taker ∷ takers) [] after few many =
       (argument_items takers after, items_many takers after many, refl)
   items_split (taker ∷ takers) (first ∷ before) after few many =
-      let rest = items_split takers before after (omega (arith, few)) many in
-      (rest.0, rest.1,
-        ap (λ (items : List (Item B)). item_of first (taken_by (Some taker) first.argument) ∷ items) rest.2)
+      let rest = items_split takers before after (omega (arith, few)) many in (
+        rest.0,
+        rest.1,
+        ap (λ (items : List (Item B)). item_of first (taken_by (Some taker) first.argument) ∷ items) rest.2,
+      )
 
   items_push : (takers : List (Taker B)) (before : List Argued) → length before ≤ length takers
       → argument_items takers (before ++ argued ∷ [])

@@ -1,7 +1,7 @@
 -- What functions that check a call answer, by what they answer of its arguments.
-use Rattle.std.proofs.Common.{◌≡◌, refl, sym, ap, subst, ◌∙◌, ℕ, zero, suc, ◌+◌, ◌<◌, ◌≤◌, arith, Bool, true, false, List}
-use Rattle.std.proofs.Common.{[], ◌∷◌, ◌++◌, length, map, take, drop, get_or, Option, Some, None, Result, Ok, Err}
-use Rattle.std.specs.Prelude.{⊤, nat_le, slice_get, option_map, option_and_then}
+use Rattle.std.proofs.Common.{◌≡◌, refl, sym, ap, subst, ◌∙◌, ℕ, zero, suc, ◌<◌, ◌≤◌, arith, Bool, true, false, List}
+use Rattle.std.proofs.Common.{[], ◌∷◌, ◌++◌, length, map, Option, Some, None, Result, Ok, Err}
+use Rattle.std.specs.Prelude.{nat_le, slice_get, option_map, option_and_then}
 use Rattle.std.proofs.lemmas.Option.{none-some}
 use Rattle.wb_base.specs.declared.faults.TheConstants.{WRONG_TYPE}
 use Rattle.pas_tokens.specs.Cutting.{Wrong, wrong}
@@ -14,12 +14,12 @@ use Rattle.pas_typed.specs.Typed as typed
 use Rattle.pas_typed.specs.Typed.{Value, Passed, Variable}
 use Rattle.pas_types.specs.declared.stop.Stop.{Stop}
 use Rattle.pas_types.specs.declared.judged.Judged.{Judged as CodeJudged}
-use Rattle.pas_types.specs.Marks.{Marks, Judged, judged, known, checked}
+use Rattle.pas_types.specs.Marks.{Judged, judged, known, checked}
 use Rattle.pas_types.specs.Expressions as spec
 use Rattle.pas_types.specs.Expressions.{Demand, Given, bare_argument, given, called, first_value, passed_to}
 use Rattle.pas_types.specs.inner.Stopping.{shown_in, found_before}
 use Rattle.pas_types.specs.inner.Answers.{Ending, end_in, settled_at, stands_at, EndsAs, StopsBy, StandsAs, FailsBy}
-use Rattle.pas_types.specs.inner.Answers.{Stands, Answers, Closes, closed_end, stands_by, settled_by}
+use Rattle.pas_types.specs.inner.Answers.{Answers, Closes, closed_end}
 use Rattle.pas_types.specs.inner.Arguments.{Taker, taken_by, taken_as, plainly, passing_in, passing_part, sole_part}
 use Rattle.pas_types.proofs.AnswerLemmas.{checked_stops_by, stops_fails, ends_moved}
 use Rattle.std.proofs.lemmas.Bool.Decides.{nat_tests}

@@ -1,5 +1,5 @@
 -- What the call of a name is, by what the name stands for.
-use Rattle.std.proofs.Common.{◌≡◌, refl, sym, ap, subst, ◌∙◌, ℕ, suc, ◌+◌, ◌<◌, arith, Bool, true, false, List, []}
+use Rattle.std.proofs.Common.{◌≡◌, refl, sym, ap, subst, ◌∙◌, ℕ, suc, ◌+◌, arith, Bool, true, false, List, []}
 use Rattle.std.proofs.Common.{◌∷◌, ◌++◌, length, map, Option, Some, None, Result, Err}
 use Rattle.std.specs.Prelude.{◌≢◌, is_some, option_map, option_and_then, if◌then◌else◌}
 use Rattle.std.proofs.lemmas.List.{length-append}
@@ -12,7 +12,7 @@ use Rattle.pas_syntax.specs.Tree.{Ident, Exprs}
 use Rattle.pas_syntax.specs.Words.{Word, at, name_at, exprs_words, factor_words}
 use Rattle.pas_typed.specs.declared.typed.Heading.{Heading as CodeHeading}
 use Rattle.pas_typed.specs.declared.types.PasType.{PasType as CodePasType}
-use Rattle.pas_typed.specs.Types.{PasType, Table, text, same_type}
+use Rattle.pas_typed.specs.Types.{Table, text, same_type}
 use Rattle.pas_typed.specs.TypeViews.{type_view}
 use Rattle.pas_typed.specs.TypedViews.{heading_view, variable_view}
 use Rattle.pas_typed.specs.Typed as typed
@@ -23,14 +23,14 @@ use Rattle.pas_types.specs.declared.names.Entity.TheVariants as code
 use Rattle.pas_types.specs.declared.stop.Stop.{Stop}
 use Rattle.pas_types.specs.declared.stop.Stop.TheVariants as stop
 use Rattle.pas_types.specs.Marks.{Marks, shows, quiet, joined, listed, Judged, judged, known, checked, unless}
-use Rattle.pas_types.specs.Scopes.{Scopes, Entity, routine, unclear}
+use Rattle.pas_types.specs.Scopes.{Scopes, routine, unclear}
 use Rattle.pas_types.specs.NameViews.{entity_view}
 use Rattle.pas_types.specs.Expressions.{Given, Demand, bare_argument, values_of, as_call, not_called, met, asked_nothing}
 use Rattle.pas_types.specs.Expressions.{heading_of, function_call_of, call_with, called, given, demands_of, passed_to, file_in}
 use Rattle.pas_types.specs.Expressions.{is_file, test_demand, first_value}
 use Rattle.pas_types.specs.inner.Stopping.{shown_in}
-use Rattle.pas_types.specs.inner.Answers.{Ending, EndsAs, StopsBy, StandsAs, Answers}
-use Rattle.pas_types.specs.inner.Arguments.{taken_as, plainly, passing_part, called_part, sole_part}
+use Rattle.pas_types.specs.inner.Answers.{Ending, EndsAs, StopsBy, Answers}
+use Rattle.pas_types.specs.inner.Arguments.{passing_part, called_part, sole_part}
 use Rattle.pas_types.proofs.AnswerLemmas.{made_stops, answers_stop}
 use Rattle.pas_types.specs.declared.judged.Judged.{Judged as CodeJudged}
 use Rattle.pas_types.proofs.AsMany.{count, total, followed_count}

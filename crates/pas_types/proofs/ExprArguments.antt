@@ -9,7 +9,7 @@ use Rattle.pas_syntax.specs.Tree as tree
 use Rattle.pas_syntax.specs.Tree.{Ident, Expr, Exprs}
 use Rattle.pas_syntax.specs.Words.{Word, at, name_at, expr_words, exprs_words, factor_words}
 use Rattle.pas_syntax.specs.Views.{in_turn, expr_in, exprs_in, more_expr_in}
-use Rattle.pas_types.specs.Marks.{no_token, joined, followed, Judged}
+use Rattle.pas_types.specs.Marks.{Judged}
 use Rattle.pas_typed.specs.Typed.{Value}
 use Rattle.pas_types.specs.Scopes.{Scopes}
 use Rattle.pas_types.specs.Expressions.{Given, bare_argument, value_of, values_of}

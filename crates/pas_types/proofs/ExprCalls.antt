@@ -3,7 +3,7 @@ use Rattle.std.proofs.Common.{◌≡◌, refl, sym, ap, subst, ◌∙◌, ℕ, z
 use Rattle.std.proofs.Common.{◌∷◌, ◌++◌, length, map, take, drop, get_or, Option, Some, None, Result, Ok, Err}
 use Rattle.std.specs.Prelude.{nat_le, slice_get, option_map}
 use Rattle.std.proofs.lemmas.Option.{none-some}
-use Rattle.std.proofs.lemmas.List.{map-append, take_more, take_all}
+use Rattle.std.proofs.lemmas.List.{map-append}
 use Rattle.wb_base.specs.declared.faults.TheConstants.{WRONG_TYPE}
 use Rattle.pas_tokens.specs.declared.kinds.Kind.TheVariants as k
 use Rattle.pas_tokens.specs.Cutting.{wrong}
@@ -25,13 +25,13 @@ use Rattle.pas_types.specs.Marks.{Marks, Judged, at_first}
 use Rattle.pas_types.specs.Scopes.{Scopes}
 use Rattle.pas_types.specs.Expressions.{Demand, Given, bare_argument, value_of, values_of}
 use Rattle.pas_types.specs.inner.Stopping.{shown_in, found_before, demanded}
-use Rattle.pas_types.specs.inner.Answers.{Ending, end_in, settled_by, EndsAs, StopsBy, StandsAs, FailsBy, Stands, Answers}
-use Rattle.pas_types.specs.inner.Answers.{Closes, closed_end, stands_by}
+use Rattle.pas_types.specs.inner.Answers.{Ending, end_in, settled_by, EndsAs, StopsBy, StandsAs, FailsBy, Answers}
+use Rattle.pas_types.specs.inner.Answers.{Closes, closed_end}
 use Rattle.pas_types.specs.inner.Arguments.{Taker, taken_by, taken_as, plainly, passing_in, passing_part, sole_part}
-use Rattle.pas_types.proofs.ArgumentLemmas.{Argued, AreArgued, argued_words, givens_of, Taken, none_taken, taken_more}
+use Rattle.pas_types.proofs.ArgumentLemmas.{Argued, AreArgued, Taken, none_taken, taken_more}
 use Rattle.pas_types.proofs.FitLemmas.{bare_taken, bare_many}
-use Rattle.pas_types.proofs.ExprArguments.{argued_expr, argued_more, as_argued, more_argued, expr_argued}
-use Rattle.pas_types.proofs.CallAnswers.{settled_is, unsettled_is, closes_answers, stopped_fails, sole_words, sole}
+use Rattle.pas_types.proofs.ExprArguments.{argued_expr, argued_more, as_argued, more_argued}
+use Rattle.pas_types.proofs.CallAnswers.{settled_is, unsettled_is, closes_answers, sole_words, sole}
 use Rattle.pas_types.proofs.CallAnswers.{sole_fails, sole_ends, sole_short, sole_many, takers_of, variables_of}
 use Rattle.pas_types.proofs.CallAnswers.{taker_at, whole_words, whole, whole_fails, whole_short, whole_ends, whole_few}
 
@@ -191,10 +191,10 @@ module _ (scopes : Scopes) (spellings : List ℕ) (lead deep : ℕ) (name : Iden
     at_taker i parameter is =
         ap (option_map (passing_in spellings table)) is ∙ sym (taker_at spellings table parameters i)
 
-    pub first_stops : (parameter : Option CodeVariable) (why : Stop) → parameter ≡ slice_get parameters 0
+    pub first_passed_stops : (parameter : Option CodeVariable) (why : Stop) → parameter ≡ slice_get parameters 0
         → FailsBy (expr_words n deep first_expr) (next_part parameter first_expr).marks why
         → StopsBy call_words passing why
-    first_stops parameter why is h =
+    first_passed_stops parameter why is h =
         passing_by (λ words part. StopsBy words part why)
         (whole_fails spellings table parameters first (behind (out-Exprs exprs).more) name_word closing [] first
         (behind (out-Exprs exprs).more) [] why refl (many (out-Exprs exprs).more) (none_taken name_word takers)

@@ -1,7 +1,6 @@
 -- Parts of the code's expressions as those of the definition, and the name that a variable begins with.
 use Rattle.std.proofs.Common.{◌≡◌, refl, ap, ◌∙◌, ℕ, List, [], ◌∷◌, map}
 use Rattle.pas_syntax.specs.declared.tree.Selector as code_selector
-use Rattle.pas_syntax.specs.declared.tree.Expr as code_expr
 use Rattle.pas_syntax.specs.declared.tree.Sum as code_sum
 use Rattle.pas_syntax.specs.declared.tree.Term as code_term
 use Rattle.pas_syntax.specs.declared.tree.Factor as code_factor
@@ -47,11 +46,11 @@ module _ (spellings : List ℕ) where
       expr_step (factor_step spellings) (selector_step spellings) sum_step term_step exprs_step (call_step spellings)
       more_expr_step (variable_step spellings) (Term-F.MoreFactors left op right)
 
-  pub call_seen : (call : code_call.FunctionCall)
+  pub call_out : (call : code_call.FunctionCall)
       → call_in spellings call
       ≡ tree.function_call (ident_in spellings (out-FunctionCall call).name) (out-FunctionCall call).opened
       (exprs_in spellings (out-FunctionCall call).arguments) (out-FunctionCall call).closed
-  call_seen call =
+  call_out call =
       fold_out-FunctionCall Expr Factor (Variable → Variable) Sum Term Exprs Factor (Exprs → Exprs) Variable
       expr_step (factor_step spellings) (selector_step spellings) sum_step term_step exprs_step (call_step spellings)
       more_expr_step (variable_step spellings) call

@@ -1,5 +1,5 @@
 -- What a part shows at its first word, where it is one too many.
-use Rattle.std.proofs.Common.{◌≡◌, refl, sym, ap, subst, ◌∙◌, ℕ, suc, ◌≤◌, arith, Bool, true, false, List, [], ◌∷◌, ◌++◌}
+use Rattle.std.proofs.Common.{◌≡◌, refl, sym, ap, subst, ◌∙◌, ◌≤◌, arith, Bool, true, false, List, [], ◌∷◌, ◌++◌}
 use Rattle.std.proofs.Common.{length, Option, Some, None}
 use Rattle.std.specs.Prelude.{nat_lt, if◌then◌else◌}
 use Rattle.std.proofs.lemmas.List.Sums.{fold-append}
@@ -12,7 +12,7 @@ use Rattle.pas_types.specs.Marks.{Marks, first_of, at_first, last_of, unless, lo
 use Rattle.pas_types.specs.inner.Answers.{FailsBy}
 use Rattle.pas_types.specs.inner.Stopping.{shown_in}
 use Rattle.pas_types.specs.inner.Arguments.{ShowsFirst}
-use Rattle.pas_types.proofs.AsMany.{AsMany, first_count}
+use Rattle.pas_types.proofs.AsMany.{AsMany}
 use Rattle.pas_types.proofs.AnswerLemmas.{checked_marks}
 
 -- the lowest of faults is no higher than the first of them

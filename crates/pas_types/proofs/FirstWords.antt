@@ -1,7 +1,5 @@
 -- What expressions show at their first word, where they are one too many.
-use Rattle.std.proofs.Common.{◌≡◌, refl, ap, ◌∙◌, ℕ, ◌+◌, List, [], ◌∷◌, ◌++◌, map, Option, Some, None}
-use Rattle.wb_base.specs.declared.faults.TheConstants.{WRONG_TYPE}
-use Rattle.pas_tokens.specs.Cutting.{Wrong, wrong}
+use Rattle.std.proofs.Common.{refl, ℕ, List, [], ◌∷◌, ◌++◌, Option, Some, None}
 use Rattle.pas_syntax.specs.declared.operators.Multiplying.{Multiplying}
 use Rattle.pas_syntax.specs.declared.operators.Adding.{Adding}
 use Rattle.pas_syntax.specs.declared.operators.Relation.{Relation}

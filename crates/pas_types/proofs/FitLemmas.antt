@@ -19,18 +19,18 @@ use Rattle.pas_typed.proofs.ValueViews.{value_view-Call, call_view-roll}
 use Rattle.pas_typed.specs.Types.{PasType, Table, integer, text, same_type}
 use Rattle.pas_typed.specs.Typed as typed
 use Rattle.pas_typed.specs.Typed.{Value, Place, Passed, Mode, FileTest, Variable}
-use Rattle.pas_typed.specs.TypeOf.{type_of, type_of_place}
+use Rattle.pas_typed.specs.TypeOf.{type_of}
 use Rattle.pas_types.specs.declared.stop.Stop.{Stop}
-use Rattle.pas_types.specs.Marks.{Marks, quiet, no_token, followed, joined, Judged, judged, known, both, checked}
+use Rattle.pas_types.specs.Marks.{Marks, Judged, judged, known, both, checked}
 use Rattle.pas_types.specs.Marks.{checked_by, kept_by, unless, at_first}
-use Rattle.pas_types.specs.Expressions.{Demand, Given, bare, bare_argument, met, asked_nothing, function_demand, only}
+use Rattle.pas_types.specs.Expressions.{Demand, bare, bare_argument, met, asked_nothing, function_demand, only}
 use Rattle.pas_types.specs.Expressions.{demand_of_mode, compatible_with, is_reference, place_in, file_in, file_only}
 use Rattle.pas_types.specs.Expressions.{is_file, test_demand, without_arguments}
 use Rattle.pas_types.specs.inner.Answers.{Ending, noted_end, lawful_end, short_end, stands_by, EndsAs, FailsBy, StandsAs}
 use Rattle.pas_types.specs.inner.Answers.{Means, Stands}
 use Rattle.pas_types.specs.declared.judged.Judged.{Judged as CodeJudged}
 use Rattle.pas_typed.specs.declared.typed.Variable.{Variable as CodeVariable}
-use Rattle.pas_types.specs.inner.Arguments.{Taker, taken_as, taken_by, plainly, is_asked_of, not_asked, passing_in}
+use Rattle.pas_types.specs.inner.Arguments.{Taker, taken_as, taken_by, is_asked_of, not_asked, passing_in}
 use Rattle.pas_types.specs.inner.ExpressionAnswers.{SettlesBefore}
 use Rattle.pas_types.proofs.AnswerLemmas.{checked_fails, checked_stands, made_ends, ends_moved, word_misses}
 use Rattle.pas_types.proofs.PartLemmas.{alone}

@@ -32,3 +32,5 @@ pub mod FitLemmas
 pub mod CallAnswers
 pub mod ExprCalls
 pub mod EntityCalls
+pub mod ExpressionSeen
+pub mod SelectLemmas

@@ -1,21 +1,20 @@
 -- A list of parts with a word before each, behind a name: one part after another.
-use Rattle.std.proofs.Common.{◌≡◌, refl, sym, ap, subst, ◌∙◌, ℕ, ◌+◌, ◌<◌, arith, Bool, true, false, List, [], ◌∷◌, ◌++◌}
-use Rattle.std.proofs.Common.{length, map, Option, Some, None}
+use Rattle.std.proofs.Common.{◌≡◌, refl, sym, ap, subst, ◌∙◌, arith, Bool, true, false, List, [], ◌∷◌, ◌++◌}
+use Rattle.std.proofs.Common.{map, Option, Some, None}
 use Rattle.std.specs.Prelude.{⊤}
-use Rattle.std.proofs.lemmas.List.{append-nil, append_assoc, length-append}
+use Rattle.std.proofs.lemmas.List.{append-nil, append_assoc}
 use Rattle.std.proofs.lemmas.Option.{none-some}
-use Rattle.wb_base.specs.declared.faults.Fault.{Fault}
 use Rattle.wb_base.specs.declared.faults.TheConstants.{WRONG_TYPE}
 use Rattle.pas_tokens.specs.Cutting.{Wrong, wrong}
 use Rattle.pas_tokens.specs.Tokens.{fault_in}
 use Rattle.pas_syntax.specs.Words.{Word}
 use Rattle.pas_types.specs.declared.stop.Stop.{Stop}
 use Rattle.pas_types.specs.declared.stop.Stop.TheVariants as stop
-use Rattle.pas_types.specs.Marks.{Marks, no_token, quiet, shows, first_of, followed, joined, listed, last_of, unless}
+use Rattle.pas_types.specs.Marks.{Marks, no_token, quiet, shows, first_of, followed, joined, listed, last_of}
 use Rattle.pas_types.specs.Marks.{Judged, judged, both, all_known, first_fault}
-use Rattle.pas_types.specs.inner.Ends.{shown_behind, refusal_behind, lowest_of, End}
+use Rattle.pas_types.specs.inner.Ends.{shown_behind, refusal_behind, lowest_of}
 use Rattle.pas_types.specs.inner.Stopping.{shown_in}
-use Rattle.pas_types.specs.inner.Answers.{EndsAs, StopsBy, Shows, FailsBy, IsQuiet, ShowsBy, closed_end, Ending}
+use Rattle.pas_types.specs.inner.Answers.{EndsAs, StopsBy, Shows, FailsBy, IsQuiet, closed_end, Ending}
 use Rattle.pas_types.proofs.AsMany.{AsMany, none, and_then, next_word}
 use Rattle.pas_types.proofs.EndLemmas.{behind_quiet, quiet_many, end_append, stops_within, last_of_nothing}
 use Rattle.pas_types.proofs.PartLemmas.{alone}

@@ -1,7 +1,6 @@
 -- What is answered of operators, by what was answered of their operands.
-use Rattle.std.proofs.Common.{◌≡◌, sym, ap, subst, ℕ, ◌<◌, Bool, false, List, [], ◌∷◌, ◌++◌, length, Option, None}
-use Rattle.std.proofs.Common.{Result, Ok, Err}
-use Rattle.wb_base.specs.declared.faults.TheConstants.{WRONG_TYPE}
+use Rattle.std.proofs.Common.{◌≡◌, sym, ap, subst, ℕ, ◌<◌, Bool, false, List, [], ◌∷◌, ◌++◌, length, None}
+use Rattle.std.proofs.Common.{Ok, Err}
 use Rattle.pas_tokens.specs.Cutting.{Wrong, wrong}
 use Rattle.pas_syntax.specs.Words.{Word}
 use Rattle.pas_types.specs.declared.stop.Stop.{Stop}
@@ -9,11 +8,11 @@ use Rattle.pas_types.specs.declared.judged.Judged.{Judged as CodeJudged}
 use Rattle.pas_types.specs.Marks.{quiet, joined, Judged, judged, known, noted, unless}
 use Rattle.pas_types.specs.inner.Ends.{Ends}
 use Rattle.pas_types.specs.inner.Stopping.{found_before}
-use Rattle.pas_types.specs.inner.Answers.{Ending, noted_end, settled_by, end_in, EndsAs, StopsBy, Answers}
+use Rattle.pas_types.specs.inner.Answers.{Ending, noted_end, settled_by, end_in, EndsAs, StopsBy}
 use Rattle.pas_types.proofs.AsMany.{AsMany, noted_many}
 use Rattle.pas_types.proofs.EndLemmas.{end_many}
 use Rattle.pas_types.proofs.PartLemmas.{pair}
-use Rattle.pas_types.proofs.AnswerLemmas.{noted_stops_by, noted_ends, noted_found, pair_stops, pair_unsettled}
+use Rattle.pas_types.proofs.AnswerLemmas.{noted_stops_by, noted_found, pair_stops, pair_unsettled}
 use Rattle.pas_types.proofs.AnswerLemmas.{pair_second, pair_ends_as, before_ends, behind_word_ends}
 
 -- a part that ends shows as many lists of faults as it has words
@@ -80,11 +79,13 @@ module _ {A B C : Type 0} (words more : List Word) (word : Word) (make : A → B
       let behind : EndsAs more second (view next.value) (end_in next.end) =
       noted_found more like right view found next holds code fine same end k in
       subst (λ (item : C). EndsAs (words ++ word ∷ more) (pair make first second) item (end_in next.end)) (sym is)
-      (pair_ends_as words more word make first second (ends_many more second (view next.value) (end_in next.end) behind)
+      (pair_ends_as words more word make first second (ends_many more second (view next.value) (end_in next.end)
+      behind)
       value line (view next.value) (end_in next.end) h behind)
 
 -- one operand behind an operator
-module _ {A B : Type 0} (words : List Word) (word : Word) (make : A → B) (demand : A → List Wrong) (part : Judged A) where
+module _ {A B : Type 0} (words : List Word) (word : Word) (make : A → B) (demand : A
+    → List Wrong) (part : Judged A) where
   pub operand_ends : {X : Type 0} (view : X → A) (found next : CodeJudged X) (holds : Bool) (code : ℕ) (whole : B)
       → demand (view found.value) ≡ unless holds (wrong code) → next.value ≡ found.value
       → end_in next.end ≡ noted_end holds code (end_in found.end) → whole ≡ make (view next.value)

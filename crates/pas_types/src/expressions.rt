@@ -45,7 +45,8 @@ pub(crate) fn value_of(scopes: &Scopes<'_>, expr: &Expr) -> Result<Judged<Value>
     match expr {
         Expr::Sum(sum) => sum_of(scopes, sum),
         Expr::Relation(left, relation, right) => {
-            let first = ordinal(scopes, sum_of(scopes, left.get())?).before(relation.line)?;
+            let first = sum_of(scopes, left.get())?;
+            let first = ordinal(scopes, first).before(relation.line)?;
             let second = sum_of(scopes, right.get())?;
             comparison_of(scopes, first, relation.item, second)
         }
@@ -54,7 +55,7 @@ pub(crate) fn value_of(scopes: &Scopes<'_>, expr: &Expr) -> Result<Judged<Value>
 
 // What a sum means.
 #[cycle(expression)]
-pub(crate) fn sum_of(scopes: &Scopes<'_>, sum: &Sum) -> Result<Judged<Value>, Stop>
+fn sum_of(scopes: &Scopes<'_>, sum: &Sum) -> Result<Judged<Value>, Stop>
     ensures { IsClear (scopes_view scopes.now) → (lead deep : ℕ)
         → Answers (sum_words lead deep (sum_in scopes.now.spellings.now sum.now))
         (spec.sum_of (scopes_view scopes.now) (sum_in scopes.now.spellings.now sum.now)) value_view result }
@@ -76,7 +77,7 @@ pub(crate) fn sum_of(scopes: &Scopes<'_>, sum: &Sum) -> Result<Judged<Value>, St
 
 // What a term means.
 #[cycle(expression)]
-pub(crate) fn term_of(scopes: &Scopes<'_>, term: &Term) -> Result<Judged<Value>, Stop>
+fn term_of(scopes: &Scopes<'_>, term: &Term) -> Result<Judged<Value>, Stop>
     ensures { IsClear (scopes_view scopes.now) → (lead deep : ℕ)
         → Answers (term_words lead deep (term_in scopes.now.spellings.now term.now))
         (spec.term_of (scopes_view scopes.now) (term_in scopes.now.spellings.now term.now)) value_view result }
@@ -96,7 +97,7 @@ pub(crate) fn term_of(scopes: &Scopes<'_>, term: &Term) -> Result<Judged<Value>,
 
 // What a factor means.
 #[cycle(expression)]
-pub(crate) fn factor_of(scopes: &Scopes<'_>, factor: &Factor) -> Result<Judged<Value>, Stop>
+fn factor_of(scopes: &Scopes<'_>, factor: &Factor) -> Result<Judged<Value>, Stop>
     ensures { IsClear (scopes_view scopes.now) → (lead deep : ℕ)
         → Answers (factor_words lead deep (factor_in scopes.now.spellings.now factor.now))
         (spec.factor_of (scopes_view scopes.now) (factor_in scopes.now.spellings.now factor.now)) value_view result }
@@ -119,10 +120,7 @@ pub(crate) fn factor_of(scopes: &Scopes<'_>, factor: &Factor) -> Result<Judged<V
 
 // What a variable means as a value, where a name by itself may be something else.
 #[cycle(expression)]
-pub(crate) fn variable_value(
-    scopes: &Scopes<'_>,
-    variable: &Variable,
-) -> Result<Judged<Value>, Stop>
+fn variable_value(scopes: &Scopes<'_>, variable: &Variable) -> Result<Judged<Value>, Stop>
     ensures { IsClear (scopes_view scopes.now) → (lead deep : ℕ)
         → Answers (variable_words lead deep (variable_in scopes.now.spellings.now variable.now))
         (spec.variable_value (scopes_view scopes.now) (variable_in scopes.now.spellings.now variable.now)) value_view
@@ -286,7 +284,7 @@ fn read_of(scopes: &Scopes<'_>, place: Judged<Place>) -> Result<Judged<Value>, S
     })
 }
 
-// A value that is ordinal.
+// A value that must be ordinal.
 fn ordinal(scopes: &Scopes<'_>, found: Judged<Value>) -> Judged<Value>
     ensures value { result.value ≡ found.value }
     ensures end { end_in result.end ≡ noted_end
@@ -297,7 +295,7 @@ fn ordinal(scopes: &Scopes<'_>, found: Judged<Value>) -> Judged<Value>
     found.noted(is_ordinal, WRONG_TYPE)
 }
 
-// A value that is of this base.
+// A value that must be of this base.
 pub(crate) fn only(scopes: &Scopes<'_>, base: Base, found: Judged<Value>) -> Judged<Value>
     ensures value { result.value ≡ found.value }
     ensures end { end_in result.end ≡ noted_end

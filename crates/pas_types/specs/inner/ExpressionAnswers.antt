@@ -1,22 +1,17 @@
 -- What functions on expressions answer.
 use Rattle.std.specs.Prelude.{◌≡◌, ℕ, List, [], ◌∷◌, Option, Some, None, Result, Ok, Err}
-use Rattle.wb_base.specs.declared.faults.TheConstants.{UNKNOWN_NAME, WRONG_TYPE}
+use Rattle.wb_base.specs.declared.faults.TheConstants.{UNKNOWN_NAME}
 use Rattle.pas_tokens.specs.Cutting.{wrong}
 use Rattle.pas_syntax.specs.Words.{Word}
 use Rattle.pas_typed.specs.declared.typed.Part as code_part
-use Rattle.pas_typed.specs.declared.typed.Passed as code_passed
-use Rattle.pas_typed.specs.Types.{Table}
 use Rattle.pas_typed.specs.Typed as typed
 use Rattle.pas_typed.specs.Typed.{Variable, Value, Place, Passed}
-use Rattle.pas_typed.specs.TypedViews.{part_view, passed_view}
+use Rattle.pas_typed.specs.TypedViews.{part_view}
 use Rattle.pas_types.specs.declared.stop.Stop.{Stop}
-use Rattle.pas_types.specs.declared.judged.Judged.{Judged as CodeJudged}
-use Rattle.pas_types.specs.Marks.{quiet, at_first, joined, Judged, judged, means, refuses, known}
-use Rattle.pas_types.specs.Marks.{checked}
+use Rattle.pas_types.specs.Marks.{quiet, joined, Judged, judged, means, refuses, known}
 use Rattle.pas_types.specs.TypeForms.{ConstantValue}
-use Rattle.pas_types.specs.Expressions.{demand_of_mode, passed_by}
 use Rattle.pas_types.specs.inner.Stopping.{stop_before}
-use Rattle.pas_types.specs.inner.Answers.{end_in, FailsBy, StandsAs, Means, ShowsBy}
+use Rattle.pas_types.specs.inner.Answers.{Means, ShowsBy}
 
 -- an expression between parentheses
 abbrev pub parenthesized_of : Judged Value → Judged Value
@@ -36,15 +31,3 @@ SettlesBefore line words part view (Err why) =
 abbrev pub Finds : (Place → Judged Place) → Option code_part.Part → Type 0
 Finds part (Some found) = (place : Place) → part place ≡ means (part_view found place)
 Finds part None = (place : Place) → part place ≡ refuses (wrong UNKNOWN_NAME)
-
--- an argument as it is passed to a parameter, before the word behind it. One too many shows it at its first token
-abbrev pub Passes : List Word → Table → Option Variable → Judged Value → Result (CodeJudged code_passed.Passed) Stop
-    → Type 0
-Passes words table None part (Ok found) = ⊥
-Passes words table None part (Err why) = FailsBy words (at_first (wrong WRONG_TYPE ∷ []) part.marks) why
-Passes words table (Some parameter) part (Ok found) =
-    (value : Value)
-    × StandsAs words (checked (demand_of_mode table parameter.mode parameter.type) part) value (end_in found.end)
-    × ((others : Passed) → passed_view found.value others ≡ passed_by parameter.mode parameter.type value others)
-Passes words table (Some parameter) part (Err why) =
-    FailsBy words (checked (demand_of_mode table parameter.mode parameter.type) part).marks why

@@ -7,7 +7,6 @@ use Rattle.pas_typed.specs.Typed.{Value}
 use Rattle.pas_typed.specs.TypeViews.{type_view, table_view}
 use Rattle.pas_typed.specs.TypedViews.{value_view}
 use Rattle.pas_typed.specs.declared.typed.Value as code_value
-use Rattle.pas_typed.specs.declared.typed.Value.TheVariants as value
 use Rattle.pas_typed.specs.TypeOf.{type_of}
 use Rattle.pas_typed.proofs.ValueViews.{value_view-Comparison}
 use Rattle.pas_types.specs.Marks.{Judged, noted, unless}

@@ -1,4 +1,4 @@
-use Rattle.std.proofs.Common.{◌≡◌, ap, ◌∙◌, [], ◌∷◌, List, SFits, w64, rules}
+use Rattle.std.proofs.Common.{ap, ◌∙◌, [], ◌∷◌, List, SFits, w64, rules}
 use Rattle.std.proofs.Math.Facts.{to_z-of_z}
 use Rattle.std.proofs.lemmas.Result.{err_from_is_err_and}
 use Rattle.pas_syntax.specs.Views.{quoted_in}

@@ -1,4 +1,4 @@
-use Rattle.std.proofs.Common.{◌≡◌, refl, sym, ap, subst, ◌∙◌, [], ◌∷◌, List, Option, Some}
+use Rattle.std.proofs.Common.{refl, sym, ap, subst, ◌∙◌, [], ◌∷◌, List, Option, Some}
 use Rattle.std.specs.Prelude.{option_map}
 use Rattle.pas_syntax.specs.Views.{ident_in}
 use Rattle.pas_syntax.specs.Words.{Word, name_at}

@@ -1,11 +1,11 @@
-use Rattle.std.proofs.Common.{◌≡◌, refl, sym, ap, subst, ◌∙◌, ◌∷◌, ◌++◌, [], Err}
+use Rattle.std.proofs.Common.{sym, ap, ◌∙◌, ◌∷◌, ◌++◌, []}
 use Rattle.std.proofs.lemmas.Result.{err_from_is_err_and}
 use Rattle.pas_typed.specs.Typed as typed
 use Rattle.pas_typed.specs.Typed.{Value}
 use Rattle.pas_typed.specs.TypedViews.{value_view}
 use Rattle.pas_typed.specs.declared.typed.Value as code_value
 use Rattle.pas_typed.proofs.ValueViews.{value_view-Parenthesized}
-use Rattle.pas_types.specs.inner.Answers.{Ending, end_in, closed_end, EndsAs}
+use Rattle.pas_types.specs.inner.Answers.{Ending, end_in, closed_end}
 use Rattle.pas_types.specs.inner.ExpressionAnswers.{parenthesized_of}
 use Rattle.pas_types.proofs.AnswerLemmas.{answers_stop, ends_moved, enclosed_unclosed, enclosed_closed}
 use Rattle.pas_types.proofs.expressions.parenthesized.Goals as goal

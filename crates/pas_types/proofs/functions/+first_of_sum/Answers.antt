@@ -1,7 +1,7 @@
 use Rattle.std.proofs.Common.{◌∙◌, sym, ap, subst}
 use Rattle.pas_syntax.specs.declared.tree.Sum.{Sum as CodeSum}
 use Rattle.pas_syntax.specs.Tree.{Sum}
-use Rattle.pas_syntax.specs.Views.{lined_in, sum_in, term_in}
+use Rattle.pas_syntax.specs.Views.{sum_in, term_in}
 use Rattle.pas_syntax.specs.Words.{sum_words}
 use Rattle.pas_syntax.proofs.ExprViews.{first_term_view, signed_term_view}
 use Rattle.pas_types.proofs.ExprSeen.{more_terms_seen}

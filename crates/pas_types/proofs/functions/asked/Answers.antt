@@ -1,15 +1,13 @@
 use Rattle.std.proofs.Common.{◌≡◌, sym, ap, ◌∙◌, ℕ, Bool}
-use Rattle.std.specs.Prelude.{◌&&◌, is_some}
 use Rattle.std.proofs.lemmas.Result.{err_from_is_err_and}
 use Rattle.pas_tokens.specs.Cutting.{wrong}
 use Rattle.pas_typed.specs.declared.typed.Place as code_place
-use Rattle.pas_typed.specs.Types.{PasType}
 use Rattle.pas_typed.specs.Typed.{read}
 use Rattle.pas_typed.specs.TypeViews.{table_view}
 use Rattle.pas_typed.specs.TypedViews.{value_view, place_view, file_test_view}
 use Rattle.pas_types.specs.Marks.{unless}
 use Rattle.pas_types.specs.Expressions.{test_demand}
-use Rattle.pas_types.specs.inner.Answers.{Ending, end_in, noted_end, stands_by}
+use Rattle.pas_types.specs.inner.Answers.{Ending, end_in, noted_end}
 use Rattle.pas_types.specs.inner.Arguments.{taken_as, plainly, is_asked_of, not_asked}
 use Rattle.pas_types.proofs.AnswerLemmas.{stands_stop}
 use Rattle.pas_types.proofs.FitLemmas.{fit_fails, asked_demand}

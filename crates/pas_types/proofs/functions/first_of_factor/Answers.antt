@@ -3,16 +3,16 @@ use Rattle.pas_tokens.specs.declared.kinds.Kind.TheVariants as k
 use Rattle.pas_syntax.specs.declared.tree.Expr.TheViews.{out-FunctionCall}
 use Rattle.pas_syntax.specs.Tree as tree
 use Rattle.pas_syntax.specs.Tree.{Ident, Factor, Variable, Exprs}
-use Rattle.pas_syntax.specs.Views.{ident_in, factor_in, variable_in, exprs_in, call_in}
+use Rattle.pas_syntax.specs.Views.{ident_in, factor_in, variable_in, exprs_in}
 use Rattle.pas_syntax.specs.Words.{at, factor_words, variable_words, exprs_words}
-use Rattle.pas_syntax.proofs.ExprViews.{variable_view, call_view, parenthesized_view, negated_view}
+use Rattle.pas_syntax.proofs.ExprViews.{variable_view, call_view, parenthesized_view}
 use Rattle.pas_types.specs.declared.stop.Stop.{Stop}
 use Rattle.pas_types.specs.Scopes.{entity_of}
 use Rattle.pas_types.specs.Expressions.{factor_of, bare_argument, values_of}
 use Rattle.pas_types.specs.ScopeViews.{scopes_view}
-use Rattle.pas_types.specs.inner.Arguments.{ShowsFirst, first_name_shows}
+use Rattle.pas_types.specs.inner.Arguments.{ShowsFirst}
 use Rattle.pas_types.proofs.FirstWords.{name_shows, variable_first, call_name_first}
-use Rattle.pas_types.proofs.ExprSeen.{name_seen, call_seen}
+use Rattle.pas_types.proofs.ExprSeen.{name_seen, call_out}
 use Rattle.pas_types.proofs.functions.first_of_factor.Goals as goal
 
 pub returns-in-Variable : goal.returns-in-Variable
@@ -43,7 +43,7 @@ returns-in-Call c lead deep =
     ∙ sym c.first_of_name-in-Call.ensures in
     subst (λ (factor : Factor). ShowsFirst (factor_words lead deep factor) (factor_of scopes factor).marks.tokens
     c.first_of_name-in-Call.result)
-    (sym (ap (factor_in spellings) c.in-Call.is ∙ call_view spellings call ∙ call_seen spellings call))
+    (sym (ap (factor_in spellings) c.in-Call.is ∙ call_view spellings call ∙ call_out spellings call))
     (subst (λ (why : Stop). ShowsFirst (factor_words lead deep (tree.function_call name opened arguments closed))
     (factor_of scopes (tree.function_call name opened arguments closed)).marks.tokens why) is
     (call_name_first lead name scopes (map bare_argument (values_of scopes arguments))

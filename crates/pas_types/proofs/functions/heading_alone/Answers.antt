@@ -1,4 +1,4 @@
-use Rattle.std.proofs.Common.{◌≡◌, sym, ap, subst, ◌∙◌, List, [], ◌∷◌, map, Option, Some, None}
+use Rattle.std.proofs.Common.{sym, ap, subst, ◌∙◌, List, [], ◌∷◌, map, Option, Some}
 use Rattle.std.specs.Prelude.{option_map}
 use Rattle.pas_syntax.specs.Words.{name_at}
 use Rattle.pas_syntax.specs.Views.{ident_in}
@@ -9,7 +9,7 @@ use Rattle.pas_typed.specs.declared.typed.Value.TheVariants as code_value
 use Rattle.pas_typed.specs.TypeViews.{type_view}
 use Rattle.pas_typed.specs.TypedViews.{value_view, variable_view, passed_views}
 use Rattle.pas_types.specs.Expressions.{without_arguments}
-use Rattle.pas_types.specs.inner.Answers.{Ending, end_in, lawful_end, short_end, EndsAs}
+use Rattle.pas_types.specs.inner.Answers.{end_in, lawful_end, short_end, EndsAs}
 use Rattle.pas_types.proofs.AnswerLemmas.{ends_moved}
 use Rattle.pas_types.proofs.FitLemmas.{name_misses, some_mapped, call_viewed}
 use Rattle.pas_types.proofs.functions.heading_alone.Goals as goal

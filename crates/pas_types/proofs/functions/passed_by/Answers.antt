@@ -1,9 +1,8 @@
-use Rattle.std.proofs.Common.{◌≡◌, sym, ap, ◌∙◌}
 use Rattle.std.proofs.lemmas.Result.{err_from_is_err_and}
 use Rattle.wb_base.specs.declared.faults.TheConstants.{WRONG_TYPE}
 use Rattle.pas_typed.specs.TypeViews.{table_view}
 use Rattle.pas_typed.specs.TypedViews.{value_view, passed_view}
-use Rattle.pas_types.specs.inner.Answers.{end_in, stands_by}
+use Rattle.pas_types.specs.inner.Answers.{end_in}
 use Rattle.pas_types.specs.inner.Arguments.{taken_as, passing_in}
 use Rattle.pas_types.proofs.AnswerLemmas.{stands_stop}
 use Rattle.pas_types.proofs.FitLemmas.{fit_fails}

@@ -1,4 +1,4 @@
-use Rattle.std.proofs.Common.{◌≡◌, sym, ap, ◌∙◌, Bool, Option}
+use Rattle.std.proofs.Common.{sym, ap, ◌∙◌, Bool, Option}
 use Rattle.std.specs.Prelude.{is_some}
 use Rattle.wb_base.specs.declared.faults.TheConstants.{WRONG_TYPE}
 use Rattle.pas_tokens.specs.Cutting.{wrong}

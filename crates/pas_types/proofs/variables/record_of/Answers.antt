@@ -1,4 +1,4 @@
-use Rattle.std.proofs.Common.{◌≡◌, sym, ap, ◌∙◌, Bool, map}
+use Rattle.std.proofs.Common.{sym, ap, ◌∙◌, Bool, map}
 use Rattle.std.specs.Prelude.{is_some}
 use Rattle.std.specs.Option.{option_copied}
 use Rattle.wb_base.specs.declared.faults.TheConstants.{WRONG_TYPE}
