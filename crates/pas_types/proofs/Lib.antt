@@ -34,3 +34,5 @@ pub mod ExprCalls
 pub mod EntityCalls
 pub mod ExpressionSeen
 pub mod SelectLemmas
+pub mod ActualLemmas
+pub mod PassedLemmas

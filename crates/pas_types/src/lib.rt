@@ -1,6 +1,7 @@
 //! The scopes and types of Pascal.
 #![tactic(auto)]
 
+mod calls;
 mod constants;
 mod expressions;
 mod functions;
