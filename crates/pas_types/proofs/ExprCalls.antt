@@ -35,11 +35,11 @@ use Rattle.pas_types.proofs.CallAnswers.{settled_is, unsettled_is, closes_answer
 use Rattle.pas_types.proofs.CallAnswers.{sole_fails, sole_ends, sole_short, sole_many, takers_of, variables_of}
 use Rattle.pas_types.proofs.CallAnswers.{taker_at, whole_words, whole, whole_fails, whole_short, whole_ends, whole_few}
 
-got_none : {A : Type 0} (xs : List A) → None ≡ slice_get xs 0 → xs ≡ []
+pub got_none : {A : Type 0} (xs : List A) → None ≡ slice_get xs 0 → xs ≡ []
 got_none [] h = refl
 got_none (x ∷ xs) h = absurd (none-some x h)
 
-got_first : {A : Type 0} (xs : List A) (x : A) → Some x ≡ slice_get xs 0 → xs ≡ x ∷ drop 1 xs
+pub got_first : {A : Type 0} (xs : List A) (x : A) → Some x ≡ slice_get xs 0 → xs ≡ x ∷ drop 1 xs
 got_first [] x h = absurd (none-some x (sym h))
 got_first (first ∷ xs) x h = let same : x ≡ first = cc in ap (λ (head : _). head ∷ xs) (sym same)
 

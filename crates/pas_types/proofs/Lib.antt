@@ -36,3 +36,5 @@ pub mod ExpressionSeen
 pub mod SelectLemmas
 pub mod ActualLemmas
 pub mod PassedLemmas
+pub mod ProcedureCalls
+pub mod SoleActuals
