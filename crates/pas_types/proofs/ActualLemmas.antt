@@ -4,7 +4,6 @@ use Rattle.std.proofs.Common.{length, map, Option, Some, None}
 use Rattle.std.specs.Prelude.{flat_map}
 use Rattle.std.proofs.lemmas.List.{append-nil}
 use Rattle.std.proofs.lemmas.Option.{none-some}
-use Rattle.wb_base.specs.declared.faults.Fault.{Fault}
 use Rattle.wb_base.specs.declared.faults.TheConstants.{WRONG_TYPE}
 use Rattle.pas_tokens.specs.declared.kinds.Kind.TheVariants as k
 use Rattle.pas_tokens.specs.Cutting.{Wrong, wrong}
@@ -19,15 +18,15 @@ use Rattle.pas_syntax.specs.Views.{behind_in}
 use Rattle.pas_syntax.specs.ProgramViews.{argument_in, arguments_in}
 use Rattle.pas_types.specs.declared.stop.Stop.{Stop}
 use Rattle.pas_types.specs.declared.stop.Stop.TheVariants as stop
-use Rattle.pas_types.specs.Marks.{Marks, no_token, shows, first_of, at_first, followed, joined, Judged, known, checked}
+use Rattle.pas_types.specs.Marks.{Marks, shows, first_of, at_first, followed, joined, Judged, checked}
 use Rattle.pas_types.specs.Marks.{first_fault}
 use Rattle.pas_typed.specs.Typed.{Value}
 use Rattle.pas_types.specs.Scopes.{Scopes}
-use Rattle.pas_types.specs.Expressions.{Given, bare_argument, value_of, met, asked_nothing}
+use Rattle.pas_types.specs.Expressions.{Given, bare_argument, value_of, asked_nothing}
 use Rattle.pas_types.specs.Calls.{actual_of, actuals_of, without_width, no_width, width_of}
 use Rattle.pas_types.specs.inner.Ends.{shown_behind}
 use Rattle.pas_types.specs.inner.Stopping.{shown_in}
-use Rattle.pas_types.specs.inner.Answers.{Ending, EndsAs, StandsAs, FailsBy, Shows, IsQuiet}
+use Rattle.pas_types.specs.inner.Answers.{Ending, StandsAs, FailsBy, Shows, IsQuiet}
 use Rattle.pas_types.specs.inner.Arguments.{Taker, taken_by}
 use Rattle.pas_types.proofs.AsMany.{AsMany, all, and_then, next_word, checked_many}
 use Rattle.pas_types.proofs.EndLemmas.{behind_quiet, quiet_many}

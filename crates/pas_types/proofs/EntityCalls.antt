@@ -129,7 +129,7 @@ file_if : (is : Bool) (place : Place) → is_some (if is then Some place else No
 file_if true place h = refl
 file_if false place h = cc
 
-asked_file : (table : Table) (test : FileTest) (place : Place) → test_demand table test (typed.read place) ≡ []
+pub asked_file : (table : Table) (test : FileTest) (place : Place) → test_demand table test (typed.read place) ≡ []
     → file_in table (typed.read place) ≡ Some place
 asked_file table typed.eof place h =
     file_if (is_file table place) place (met_unless (is_some (file_in table (typed.read place))) h)
@@ -150,7 +150,7 @@ tested_stops words table test arguments why h =
     (λ none. ap (λ (found : Option Value). known (typed.tested test) (option_and_then (file_in table) found)) none) h
 
 -- what is known of the only argument meets the demand on it
-sole_met : (demand : Demand) (arguments : List Given) (value : Value)
+pub sole_met : (demand : Demand) (arguments : List Given) (value : Value)
     → (sole_part demand arguments).value ≡ Some value → demand value ≡ []
 sole_met demand [] value h = absurd (none-some value h)
 sole_met demand (argument ∷ arguments) value h = by (given (demand ∷ []) (argument ∷ arguments)) refl h

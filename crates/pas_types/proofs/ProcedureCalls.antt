@@ -1,5 +1,5 @@
 -- What the call of a procedure is, by what its name stands for.
-use Rattle.std.proofs.Common.{◌≡◌, refl, sym, ap, subst, ◌∙◌, ℕ, suc, ◌+◌, arith, List, [], ◌∷◌, ◌++◌, length, map}
+use Rattle.std.proofs.Common.{◌≡◌, refl, sym, ap, subst, ℕ, suc, ◌+◌, arith, List, [], ◌∷◌, length, map}
 use Rattle.std.proofs.Common.{Option, Some, None}
 use Rattle.std.specs.Prelude.{option_map}
 use Rattle.std.proofs.lemmas.List.{length-append}
@@ -16,7 +16,7 @@ use Rattle.pas_typed.specs.TypeViews.{type_view}
 use Rattle.pas_typed.specs.TypedViews.{heading_view, variable_view}
 use Rattle.pas_typed.specs.Typed as typed
 use Rattle.pas_typed.specs.Typed.{Heading, Value, Passed, Statement}
-use Rattle.pas_types.specs.Marks.{Marks, Judged, judged, known}
+use Rattle.pas_types.specs.Marks.{Judged, judged, known}
 use Rattle.pas_types.specs.Scopes.{Scopes}
 use Rattle.pas_types.specs.Expressions.{Given, called, not_called, heading_of, given, demands_of, passed_to}
 use Rattle.pas_types.specs.Calls.{actuals_of, without_width, procedure_with, routine_with}

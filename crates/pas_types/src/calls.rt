@@ -29,7 +29,11 @@ use sqlite_items::{Boxed, Items};
 use wb_base::faults::WRONG_TYPE;
 
 // What the name of a routine means as a statement: the call of a procedure that takes no arguments.
-pub(crate) fn routine_alone(scopes: &Scopes<'_>, ident: Ident, number: u32) -> Result<Statement, Stop>
+pub(crate) fn routine_alone(
+    scopes: &Scopes<'_>,
+    ident: Ident,
+    number: u32,
+) -> Result<Statement, Stop>
     ensures { (n : ℕ) → Settles (name_at n (ident_in scopes.now.spellings.now ident) ∷ [])
         (spec.routine_alone number (heading_of (scopes_view scopes.now) number))
         (statement_view scopes.now.spellings.now) result }
@@ -200,11 +204,7 @@ fn status_of(scopes: &Scopes<'_>, found: Judged<Value>) -> Result<Judged<Value>,
 }
 
 // The first argument of a procedure, which has no width, and behind which none may stand.
-fn sole<T: Drop>(
-    scopes: &Scopes<'_>,
-    arguments: &Arguments,
-    found: Judged<T>,
-) -> Result<T, Stop>
+fn sole<T: Drop>(scopes: &Scopes<'_>, arguments: &Arguments, found: Judged<T>) -> Result<T, Stop>
     ensures { (n : ℕ) (name : tree.Ident) (demand : Demand) (view : T → SpecValue)
         → StandsAs (expr_words (n + 1) 0 (expr_in scopes.now.spellings.now arguments.now.items.first.value))
         (taken_as (plainly demand) (value_of (scopes_view scopes.now)

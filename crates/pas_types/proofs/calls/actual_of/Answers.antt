@@ -1,10 +1,9 @@
-use Rattle.std.proofs.Common.{◌≡◌, sym, ap, subst, ◌∙◌, Option, Some, None}
+use Rattle.std.proofs.Common.{sym, subst, Option, Some}
 use Rattle.std.specs.Prelude.{option_map}
 use Rattle.std.specs.Option.{option_copied}
 use Rattle.std.proofs.lemmas.Result.{err_from_is_err_and}
 use Rattle.pas_syntax.specs.declared.tree.Behind.{Behind as CodeBehind}
 use Rattle.pas_syntax.specs.declared.tree.Expr as code_expr
-use Rattle.pas_syntax.specs.Tree.{Behind, Expr}
 use Rattle.pas_syntax.specs.Words.{argument_words}
 use Rattle.pas_syntax.specs.Views.{expr_in, behind_in, if_there}
 use Rattle.pas_syntax.specs.ProgramViews.{argument_in}

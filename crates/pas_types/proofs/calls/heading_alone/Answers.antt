@@ -1,4 +1,4 @@
-use Rattle.std.proofs.Common.{◌≡◌, sym, ap, subst, List, [], ◌∷◌, map, true, Option, None}
+use Rattle.std.proofs.Common.{sym, ap, subst, [], ◌∷◌, map, true, Option}
 use Rattle.std.specs.Prelude.{option_map}
 use Rattle.pas_syntax.specs.Words.{name_at}
 use Rattle.pas_syntax.specs.Views.{ident_in}

@@ -1,14 +1,13 @@
-use Rattle.std.proofs.Common.{◌≡◌, sym, ap, subst, ◌∙◌, map, [], ◌∷◌, None, Some}
+use Rattle.std.proofs.Common.{sym, subst, map, [], ◌∷◌}
 use Rattle.std.proofs.lemmas.Result.{err_from_is_err_and}
 use Rattle.wb_base.specs.declared.faults.TheConstants.{WRONG_TYPE}
 use Rattle.pas_tokens.specs.Cutting.{wrong}
 use Rattle.pas_syntax.specs.Views.{ident_in}
 use Rattle.pas_syntax.specs.ProgramViews.{arguments_in}
-use Rattle.pas_typed.specs.Typed.{Statement, calls}
+use Rattle.pas_typed.specs.Typed.{calls}
 use Rattle.pas_typed.specs.declared.typed.Statement.TheVariants as code_statement
 use Rattle.pas_typed.specs.TypedViews.{variable_view, passed_views, statement_view}
 use Rattle.pas_typed.proofs.StatementViews.{statement_view-Calls}
-use Rattle.pas_types.specs.Marks.{judged}
 use Rattle.pas_types.specs.Expressions.{not_called}
 use Rattle.pas_types.specs.ScopeViews.{scopes_view}
 use Rattle.pas_types.specs.inner.Answers.{Means, ShowsBy, Settles}
