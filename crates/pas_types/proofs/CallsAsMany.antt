@@ -41,14 +41,14 @@ given_of actuals = map without_width actuals
 abbrev pub all_marks : List Actual → List Marks
 all_marks actuals = map plain_marks (given_of actuals)
 
-width_many : (scopes : Scopes) (n : ℕ) (width : Option (Behind Expr))
+pub width_many : (scopes : Scopes) (n : ℕ) (width : Option (Behind Expr))
     → AsMany (words_if (width_words n) width) (no_width (width_of scopes width)).marks
 width_many scopes n None = none
 width_many scopes n (Some behind) =
     next_word (at n k.Colon behind.line) (wrong WRONG_TYPE ∷ []) (joined ((value_of scopes behind.item).marks ∷ []))
     (all (value_of scopes behind.item).marks (value_many scopes n 0 behind.item))
 
-argument_many : (scopes : Scopes) (n : ℕ) (argument : tree.Argument)
+pub argument_many : (scopes : Scopes) (n : ℕ) (argument : tree.Argument)
     → AsMany (argument_words n argument) (plain_marks (without_width (actual_of scopes argument)))
 argument_many scopes n argument =
     let behind : Marks = (no_width (width_of scopes argument.width)).marks in

@@ -1,0 +1,14 @@
+use Rattle.std.proofs.Common.{subst, Option, [], ◌∷◌}
+use Rattle.pas_syntax.specs.Words.{name_at}
+use Rattle.pas_syntax.specs.Views.{ident_in}
+use Rattle.pas_typed.specs.Typed.{Heading}
+use Rattle.pas_typed.specs.TypedViews.{statement_view}
+use Rattle.pas_types.specs.Calls.{routine_alone}
+use Rattle.pas_types.specs.inner.Answers.{Settles}
+use Rattle.pas_types.proofs.calls.routine_alone.Goals as goal
+
+pub returns-in-Some : goal.returns-in-Some
+returns-in-Some c n =
+    subst (λ (heading : Option Heading). Settles (name_at n (ident_in c.args.scopes.now.spellings.now c.args.ident) ∷ [])
+    (routine_alone c.args.number heading) (statement_view c.args.scopes.now.spellings.now) c.heading_alone.result)
+    c.in-Some.ensures (c.heading_alone.ensures n)
