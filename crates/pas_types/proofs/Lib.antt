@@ -19,3 +19,11 @@ pub mod NumberLemmas
 pub mod ConstantLemmas
 pub mod SubrangeLemmas
 pub mod TypePartLemmas
+pub mod NewNameLemmas
+pub mod KeptLemmas
+pub mod SequenceLemmas
+pub mod IndexLemmas
+pub mod FormLemmas
+pub mod FormSeen
+pub mod GroupLemmas
+pub mod FormStepLemmas

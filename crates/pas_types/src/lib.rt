@@ -7,6 +7,7 @@ mod labels;
 mod limits;
 mod name_sets;
 mod names;
+mod new_names;
 mod scopes;
 mod simple_types;
 mod stop;

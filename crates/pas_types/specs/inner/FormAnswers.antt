@@ -1,0 +1,41 @@
+-- What functions on array, record and file types answer.
+use Rattle.std.specs.Prelude.{ℕ, List, [], ◌∷◌, map, None, Result, Ok, Err}
+use Rattle.pas_syntax.specs.declared.tree.RecordForm as code_record
+use Rattle.pas_syntax.specs.declared.tree.TypeForm.TheViews.{out-RecordForm}
+use Rattle.pas_syntax.specs.Tree.{Idents, Fields}
+use Rattle.pas_syntax.specs.Words.{Word}
+use Rattle.pas_syntax.specs.inner.TypeViews as seen
+use Rattle.pas_typed.specs.declared.types.Range.{Range as CodeRange}
+use Rattle.pas_typed.specs.declared.types.Field.{Field as CodeField}
+use Rattle.pas_typed.specs.Types.{Table, Made}
+use Rattle.pas_typed.specs.TypeViews.{range_view, field_view}
+use Rattle.pas_types.specs.declared.stop.Stop.{Stop}
+use Rattle.pas_types.specs.Marks.{quiet, joined, Judged, judged, noted}
+use Rattle.pas_types.specs.Scopes.{new_names}
+use Rattle.pas_types.specs.TypeForms.{Indexes, Group, no_file}
+use Rattle.pas_types.specs.inner.Answers.{FailsBy, Means}
+
+-- what is answered of a part that stands before a word, which shows nothing because of it. What shows why checking
+-- stops is told where this holds
+abbrev pub SettlesIf : {X A : Type 0} → Type 0 → List Word → Judged A → (X → A) → Result X Stop → Type 0
+SettlesIf Clear words part view (Ok found) = Means words part (view found)
+SettlesIf Clear words part view (Err why) = Clear → FailsBy words part.marks why
+
+-- the ranges of indexes, with this table behind them
+abbrev pub indexes_view : Table → List CodeRange → Indexes
+indexes_view table ranges = record { ranges = map range_view ranges; table = table }
+
+-- the fields of a record, with this table behind them
+abbrev pub fields_view : List ℕ → Table → List CodeField → Group
+fields_view spellings table fields = record { fields = map (field_view spellings) fields; table = table }
+
+-- the fields of one type, where these names are taken
+abbrev pub group_part : List (List ℕ) → Idents → Judged Made → Judged Made
+group_part taken idents form =
+    let part = noted no_file form in
+    judged (joined (new_names taken idents ∷ quiet ∷ part.marks ∷ [])) part.value
+
+-- the fields of a record as the definition has them
+abbrev pub fields_in : List ℕ → code_record.RecordForm → Fields
+fields_in spellings form =
+    (seen.fields_in spellings (out-RecordForm form).first (out-RecordForm form).more None).fields
