@@ -50,7 +50,7 @@ module _ (words between more : List Word) (separator : Marks) (still : IsQuiet b
       (with_fields (spellings_of idents) fields found)
   group_means found one = record {
     known = known_both (with_fields (spellings_of idents)) before.value (noted no_file form).value fields found
-    h.known
+        h.known
         one.known;
     quiet = listed_quiet words between more before.marks separator (group_part taken idents form).marks h.quiet still
         one.quiet;

@@ -27,3 +27,6 @@ pub mod FormLemmas
 pub mod FormSeen
 pub mod GroupLemmas
 pub mod FormStepLemmas
+pub mod DeclaredLemmas
+pub mod ConstantRowLemmas
+pub mod RowLemmas

@@ -8,3 +8,4 @@ pub mod Constants
 pub mod TypeAnswers
 pub mod NameAnswers
 pub mod FormAnswers
+pub mod Declared

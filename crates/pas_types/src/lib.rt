@@ -2,6 +2,7 @@
 #![tactic(auto)]
 
 mod constants;
+mod declarations;
 mod judged;
 mod labels;
 mod limits;

@@ -44,6 +44,14 @@ pub(crate) fn is_taken(scopes: &Scopes<'_>, region: Region, name: &[u8]) -> bool
     }
 }
 
+// Refuses a name that may not be declared in a region.
+pub(crate) fn new_alone(scopes: &Scopes<'_>, region: Region, ident: Ident) -> Result<(), Stop>
+    ensures { IsNewName (taken_in (scopes_view scopes.now) region) (ident_in scopes.now.spellings.now ident) result }
+{
+    let is_new = !is_taken(scopes, region, scopes.spelling(ident.span));
+    demand(is_new, DUPLICATE_NAME, ident.line)
+}
+
 // Refuses names that may not be declared in a region behind those before them, and puts them behind these.
 pub(crate) fn new_names<'p>(
     scopes: &Scopes<'p>,
