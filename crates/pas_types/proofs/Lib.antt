@@ -27,6 +27,7 @@ pub mod FormLemmas
 pub mod FormSeen
 pub mod GroupLemmas
 pub mod FormStepLemmas
+pub mod UnknownLemmas
 pub mod DeclaredLemmas
 pub mod ConstantRowLemmas
 pub mod RowLemmas

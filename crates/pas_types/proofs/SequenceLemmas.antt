@@ -8,9 +8,12 @@ use Rattle.pas_types.specs.declared.stop.Stop.TheVariants as stop
 use Rattle.pas_types.specs.declared.judged.Judged.{Judged as CodeJudged}
 use Rattle.pas_types.specs.Marks.{Marks, followed, joined, Judged, judged, both}
 use Rattle.pas_types.specs.TypeForms.{maybe_quiet}
-use Rattle.pas_types.specs.inner.Answers.{Ending, EndsAs, StopsBy, Answers, FailsBy, IsQuiet}
+use Rattle.pas_types.specs.inner.Answers.{Ending, EndsAs, StopsBy, Answers, FailsBy, IsQuiet, Means}
 use Rattle.pas_types.specs.inner.TypeAnswers.{AnswersIf}
-use Rattle.pas_types.specs.inner.FormAnswers.{SettlesIf}
+use Rattle.wb_base.specs.declared.faults.Fault.{Fault}
+use Rattle.pas_types.specs.inner.Answers.{end_in}
+use Rattle.pas_types.specs.inner.Constants.{IsUnknownBy}
+use Rattle.pas_types.specs.inner.FormAnswers.{SettlesIf, IsUnknownIf, Knows, first_told, FoundIf, SettledIf}
 use Rattle.pas_types.proofs.AsMany.{AsMany}
 use Rattle.pas_types.proofs.EndLemmas.{stops_behind, stops_within, ends_behind}
 use Rattle.pas_types.proofs.PartLemmas.{alone}
@@ -151,3 +154,86 @@ module _ {A B : Type 0} (words : List Word) (marks : Marks) (value : Option A) (
     first = λ more nothing. h.first more (λ none. nothing (unknown none));
   }
   revalued_stops stop.Missing h unknown = absurd h
+
+-- where a fault in a part is noted or not
+module _ {X Y A B : Type 0} (Clear : Type 0) (words more : List Word) (part : Judged A) (whole : Judged B) (view : X
+    → A)
+    (seen : Y → B) where
+  told_noted : (fault : Fault) (why : Stop) → StopsBy more whole (stop.Fault fault)
+      → StopsBy more whole (first_told (Some fault) why)
+  told_noted fault stop.OutOfMemory h = tt
+  told_noted fault (stop.Fault other) h = h
+  told_noted fault stop.Missing h = h
+
+  found_noted : (fault : Fault) (result : Result (CodeJudged Y) Stop)
+      → (Clear → StopsBy more whole (stop.Fault fault)) → FoundIf Clear more whole seen (Some fault) result
+  found_noted fault (Ok found) h = h
+  found_noted fault (Err why) h = λ clear. told_noted fault why (h clear)
+
+  pub found_none : (result : Result (CodeJudged Y) Stop) → AnswersIf Clear more whole seen result
+      → FoundIf Clear more whole seen None result
+  found_none (Ok found) h = h
+  found_none (Err why) h = h
+
+  -- checking stops in the part
+  pub found_within : (noted : Option Fault) (why : Stop) → FoundIf Clear words part view noted (Err why)
+      → ((other : Stop) → StopsBy words part other → StopsBy more whole other)
+      → FoundIf Clear more whole seen noted (Err why)
+  found_within None why h within = λ clear. within why (h clear)
+  found_within (Some fault) why h within = λ clear. within (first_told (Some fault) why) (h clear)
+
+  pub found_in_front : (noted : Option Fault) (why : Stop) → SettledIf Clear words part view noted (Err why)
+      → ((other : Stop) → FailsBy words part.marks other → StopsBy more whole other)
+      → FoundIf Clear more whole seen noted (Err why)
+  found_in_front None why h within = λ clear. within why (h clear)
+  found_in_front (Some fault) why h within = λ clear. within (first_told (Some fault) why) (h clear)
+
+  -- the part is found, and a fault is noted in it or not
+  pub found_behind : (noted : Option Fault) (found : CodeJudged X) (result : Result (CodeJudged Y) Stop)
+      → FoundIf Clear words part view noted (Ok found)
+      → (EndsAs words part (view found.value) (end_in found.end) → AnswersIf Clear more whole seen result)
+      → ((other : Stop) → StopsBy words part other → StopsBy more whole other)
+      → FoundIf Clear more whole seen noted result
+  found_behind None found result h ends within = found_none result (ends h)
+  found_behind (Some fault) found result h ends within =
+      found_noted fault result (λ clear. within (stop.Fault fault) (h clear))
+
+  pub settled_behind : (noted : Option Fault) (found : X) (result : Result (CodeJudged Y) Stop)
+      → SettledIf Clear words part view noted (Ok found)
+      → (Means words part (view found) → AnswersIf Clear more whole seen result)
+      → ((other : Stop) → FailsBy words part.marks other → StopsBy more whole other)
+      → FoundIf Clear more whole seen noted result
+  settled_behind None found result h means within = found_none result (means h)
+  settled_behind (Some fault) found result h means within =
+      found_noted fault result (λ clear. within (stop.Fault fault) (h clear))
+
+module _ {X A : Type 0} (Clear : Type 0) (words : List Word) (part : Judged A) (view : X → A) (noted : Option Fault)
+    (why : Stop) where
+  pub found_stop : (result : Result (CodeJudged X) Stop)
+      → ((found : Stop) × (result ≡ Err found) × (found ≡ why)) → FoundIf Clear words part view noted (Err why)
+      → FoundIf Clear words part view noted result
+  found_stop result is h = subst (FoundIf Clear words part view noted) (sym (is.1 ∙ ap Err is.2)) h
+
+  pub settled_why : (Clear → FailsBy words part.marks (first_told noted why))
+      → SettledIf Clear words part view noted (Err why)
+  settled_why h = why_by noted h
+    where
+      why_by : (o : Option Fault) → (Clear → FailsBy words part.marks (first_told o why))
+          → SettledIf Clear words part view o (Err why)
+      why_by None h = h
+      why_by (Some fault) h = h
+
+  pub settled_stop : (result : Result X Stop) → ((found : Stop) × (result ≡ Err found) × (found ≡ why))
+      → SettledIf Clear words part view noted (Err why) → SettledIf Clear words part view noted result
+  settled_stop result is h = subst (SettledIf Clear words part view noted) (sym (is.1 ∙ ap Err is.2)) h
+
+pub knows_stop : {X A : Type 0} (part : Judged A) (view : X → A) (why : Stop) (result : Result X Stop)
+    → ((found : Stop) × (result ≡ Err found) × (found ≡ why)) → IsUnknownBy part why → Knows part view result
+knows_stop part view why result is h = subst (Knows part view) (sym (is.1 ∙ ap Err is.2)) h
+
+-- what is found is known
+pub knows_found : {X A : Type 0} (Clear : Type 0) (words : List Word) (part : Judged A) (view : X → A)
+    (result : Result (CodeJudged X) Stop) → AnswersIf Clear words part view result → IsUnknownIf part result
+    → Knows part (λ found. view found.value) result
+knows_found Clear words part view (Ok found) h unknown = h.known
+knows_found Clear words part view (Err why) h unknown = unknown

@@ -1,5 +1,5 @@
 //! Declarations (ISO 7185, 6.2 to 6.5, in this project's profile). A name holds from behind its whole declaration.
-ghost use Rattle.std.specs.Prelude.{◌≡◌, ◌≢◌, Some, None, Err, IfOk, OnOk};
+ghost use Rattle.std.specs.Prelude.{◌≡◌, ◌≢◌, Some, None, IfOk, OnOk};
 ghost use Rattle.std.specs.Option.{option_copied};
 ghost use Rattle.pas_tokens.specs.declared.kinds.Kind.TheVariants as k;
 ghost use Rattle.pas_syntax.specs.Views.{constant_in, if_there};
@@ -11,33 +11,16 @@ ghost use Rattle.pas_types.specs.TypeForms as form;
 ghost use Rattle.pas_types.specs.Declarations as spec;
 ghost use Rattle.pas_types.specs.NameViews.{entity_view, IsSmallEntity};
 ghost use Rattle.pas_types.specs.ScopeViews.{scopes_view, IsClear};
-ghost use Rattle.pas_types.specs.declared.stop.Stop.TheVariants as stop;
-ghost use Rattle.pas_types.specs.inner.Declared.{first_noted, constant_meant, NotesIf, Declares};
+ghost use Rattle.pas_types.specs.inner.Declared.{constant_meant, NotesIf, Declares};
 
 use crate::constants::{Ordinal, constant_of};
 use crate::names::Entity;
 use crate::new_names::{Region, new_alone};
+use crate::noting::note;
 use crate::scopes::Scopes;
 use crate::stop::Stop;
 use pas_syntax::tree::{Constant, ConstantRow, Rows};
 use wb_base::Fault;
-
-// Notes why checking stops in a part, where it is the first fault. Want of memory is handed on.
-pub(crate) fn note(noted: &mut Option<Fault>, found: Result<(), Stop>) -> Result<(), Stop>
-    ensures noted { OnOk result (noted.new ≡ first_noted noted.old found) }
-    ensures ok { IfOk result (λ _. found ≢ Err stop.OutOfMemory) }
-{
-    match found {
-        Ok(()) | Err(Stop::Missing) => Ok(()),
-        Err(Stop::OutOfMemory) => Err(Stop::OutOfMemory),
-        Err(Stop::Fault(fault)) => {
-            if noted.is_none() {
-                *noted = Some(fault);
-            }
-            Ok(())
-        }
-    }
-}
 
 // Declares constants.
 pub(crate) fn constants_of(

@@ -9,6 +9,7 @@ mod limits;
 mod name_sets;
 mod names;
 mod new_names;
+mod noting;
 mod scopes;
 mod simple_types;
 mod stop;

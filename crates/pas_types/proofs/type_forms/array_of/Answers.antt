@@ -1,4 +1,5 @@
-use Rattle.std.proofs.Common.{refl, map}
+use Rattle.std.proofs.Common.{refl, ap, ◌∙◌, map}
+use Rattle.pas_typed.specs.declared.types.PasType.{PasType as CodePasType}
 use Rattle.pas_typed.specs.Types.{Table, Made}
 use Rattle.pas_typed.specs.TypeViews.{range_view, type_view, table_view}
 use Rattle.pas_types.specs.TypeForms.{arrays}
@@ -26,3 +27,13 @@ returns-clause-answers c n line opened closed of_line packed index_words words i
     (array_ends n line opened closed of_line packed index_words words indexes part (indexes_view before ranges)
     value end
     h (c.no_file-element.ensures.ends words part e)))
+
+pub returns-clause-made : goal.returns-clause-made
+returns-clause-made c =
+    let spellings = c.args.scopes.now.spellings.now in
+    let table : Table = table_view spellings c.args.scopes.now.types in
+    ap (λ (type : CodePasType). record { type = type_view type; table = table_view spellings c.arrays.new.types })
+    c.within_limit.ensures.value
+    ∙ (c.in_ok-arrays.ensures spellings
+    ∙ ap (λ (type : CodePasType). arrays table (map range_view c.args.ranges.now) (type_view type))
+    c.no_file-element.ensures.value)

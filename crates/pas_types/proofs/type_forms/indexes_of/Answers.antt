@@ -21,6 +21,11 @@ use Rattle.pas_types.proofs.KeptLemmas.{spellings_kept, agrees_kept}
 use Rattle.pas_types.proofs.SequenceLemmas.{settles_if_stop}
 use Rattle.pas_types.proofs.IndexLemmas.{SoFar, first_means, first_fails, seen_behind, all_indexes, index_more}
 use Rattle.pas_types.proofs.IndexLemmas.{index_stopped, indexes_mean}
+use Rattle.std.proofs.Common.{Option}
+use Rattle.std.specs.Prelude.{unwrap_or, option_map}
+use Rattle.pas_types.specs.TypeForms.{Indexes}
+use Rattle.pas_types.specs.inner.Constants.{IsUnknownBy}
+use Rattle.pas_types.proofs.UnknownLemmas.{of_none, unknown_stop, first_unknown, index_unknown}
 use Rattle.pas_types.proofs.type_forms.indexes_of.Goals as goal
 
 abbrev no_index : CodeBehind CodeSimple
@@ -119,3 +124,40 @@ returns-clause-answers c s same n =
     c.as_slice-behind-items.ensures
     (indexes_mean (IsClear s) s table n first spellings c.as_slice-behind-items.result.now c.loop-behind.behind-index
     no_index c.loop-behind.ranges now (c.loop-behind.invariant.means s same n) c.loop-behind-test.false)
+
+pub returns-in_err-index_of-clause-unknown : goal.returns-in_err-index_of-clause-unknown
+returns-in_err-index_of-clause-unknown c s same =
+    let spellings = c.args.scopes.now.spellings.now in
+    let table : Table = table_view spellings c.args.scopes.now.types in
+    let first : Simple = simple_in spellings c.args.head.now.indexes.first in
+    let all = separated_in (simple_in spellings) c.args.head.now.indexes in
+    let why = c.in_err-index_of.field-0.0 in
+    unknown_stop (indexes_of s table all) why c.from_residual.result
+    (err_from_is_err_and _ c.from_residual.ensures.1)
+    (of_none (checked index_only (simple_of s table first)) (indexes_of s table all) why
+    (first_unknown s table first (seen_behind spellings c.args.head.now.indexes.more))
+    (c.in_err-index_of.ensures.unknown s same))
+
+pub returns-in_err-index_of-2-clause-unknown : goal.returns-in_err-index_of-2-clause-unknown
+returns-in_err-index_of-2-clause-unknown c s same =
+    let spellings = c.args.scopes.now.spellings.now in
+    let table : Table = table_view spellings c.args.scopes.now.types in
+    let first : Simple = simple_in spellings c.args.head.now.indexes.first in
+    let all = separated_in (simple_in spellings) c.args.head.now.indexes in
+    let now : Table = table_view c.loop-behind.scopes.spellings.now c.loop-behind.scopes.types in
+    let why = c.in_err-index_of-2.field-0.0 in
+    let items = c.as_slice-behind-items.result.now in
+    let item : Simple = simple_in spellings (get_or items c.loop-behind.behind-index no_index).item in
+    unknown_stop (indexes_of s table all) why c.from_residual-in_err-index_of-2.result
+    (err_from_is_err_and _ c.from_residual-in_err-index_of-2.ensures.1)
+    (of_none (checked index_only (simple_of s now item)) (indexes_of s table all) why
+    (λ none. ap (λ (more : List (CodeBehind CodeSimple)).
+    (indexes_of s table (all_indexes first (seen_behind spellings more))).value) (sym c.as_slice-behind-items.ensures)
+    ∙ index_unknown s table first spellings items c.loop-behind.behind-index no_index now c.loop-behind-test.true
+    (ap (λ (value : Option Indexes). unwrap_or (option_map (λ (indexes : Indexes). indexes.table) value) table)
+    (c.loop-behind.invariant.means s same 0).known) none)
+    (subst (λ (seen : List ℕ). IsUnknownBy (checked index_only (simple_of s now (simple_in seen
+    (get_or items c.loop-behind.behind-index no_index).item))) why)
+    (spellings_kept c.args.scopes.now c.loop-behind.scopes c.loop-behind.invariant.kept)
+    (c.in_err-index_of-2.ensures.unknown s
+    (agrees_kept c.args.scopes.now c.loop-behind.scopes c.loop-behind.invariant.kept s same))))

@@ -25,3 +25,10 @@ returns-clause-answers c n line packed semicolon words group h =
     (ap (λ (type : CodePasType). record { type = type_view type; table = table_view spellings c.make.new.self })
     c.lawful.ensures.value ∙ sym (c.in_ok-pas_type.ensures.made spellings)) c.lawful.ensures.end
     (record_ends n line c.args.end packed semicolon words group all h))
+
+pub returns-clause-made : goal.returns-clause-made
+returns-clause-made c =
+    let spellings = c.args.scopes.now.spellings.now in
+    ap (λ (type : CodePasType). record { type = type_view type; table = table_view spellings c.make.new.self })
+    (c.within_limit.ensures.value ∙ c.lawful.ensures.value)
+    ∙ sym (c.in_ok-pas_type.ensures.made spellings)
