@@ -28,6 +28,7 @@ pub mod FormSeen
 pub mod GroupLemmas
 pub mod FormStepLemmas
 pub mod UnknownLemmas
+pub mod GrowthLemmas
 pub mod DeclaredLemmas
 pub mod ConstantRowLemmas
 pub mod RowLemmas

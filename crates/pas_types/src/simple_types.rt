@@ -9,7 +9,7 @@ ghost use Rattle.pas_types.specs.TypeForms as spec;
 ghost use Rattle.pas_types.specs.ScopeViews.{scopes_view, made_view, IsClear, Agrees};
 ghost use Rattle.pas_types.specs.inner.Answers.{lawful_end, end_in};
 ghost use Rattle.pas_types.specs.inner.TypeAnswers.{no_type_by, AnswersIf, IsRange};
-ghost use Rattle.pas_types.specs.inner.FormAnswers.{IsUnknownIf};
+ghost use Rattle.pas_types.specs.inner.FormAnswers.{IsUnknownIf, Grows};
 
 use crate::constants::{Ordinal, constant_of};
 use crate::judged::Judged;
@@ -60,6 +60,7 @@ pub(crate) fn simple_of(scopes: &mut Scopes<'_>, simple: Simple) -> Result<Judge
         (spec.simple_of s (table_view scopes.old.spellings.now scopes.old.types)
         (simple_in scopes.old.spellings.now simple)) result }
     ensures kept { scopes.new ≡ record scopes.old { types = scopes.new.types } }
+    ensures grows { Grows scopes.old.types scopes.new.types }
     ensures err { OnErr result (scopes.new ≡ scopes.old) }
     ensures lawful { IfOk result (λ found. end_in found.end ≡ lawful_end found.end.line) }
 {
@@ -86,6 +87,7 @@ fn subrange_of(
         (spec.constant_of s (constant_in scopes.old.spellings.now low))
         (spec.constant_of s (constant_in scopes.old.spellings.now high))) result }
     ensures kept { scopes.new ≡ record scopes.old { types = scopes.new.types } }
+    ensures grows { Grows scopes.old.types scopes.new.types }
     ensures err { OnErr result (scopes.new ≡ scopes.old) }
     ensures lawful { IfOk result (λ found. end_in found.end ≡ lawful_end found.end.line) }
 {

@@ -17,7 +17,7 @@ ghost use Rattle.pas_types.specs.TypeForms as spec;
 ghost use Rattle.pas_types.specs.ScopeViews.{all_idents, scopes_view, made_view, IsClear, Agrees};
 ghost use Rattle.pas_types.specs.inner.Answers.{end_in, EndsAs, Answers, Means};
 ghost use Rattle.pas_types.specs.inner.TypeAnswers.{file_part, IsIndex};
-ghost use Rattle.pas_types.specs.inner.FormAnswers.{SettlesIf, IsUnknownIf, Knows, FoundIf, SettledIf};
+ghost use Rattle.pas_types.specs.inner.FormAnswers.{SettlesIf, IsUnknownIf, Knows, FoundIf, SettledIf, Grows};
 ghost use Rattle.pas_types.specs.inner.FormAnswers.{indexes_view, fields_view, group_part, fields_in};
 ghost use Rattle.wb_base.specs.declared.faults.Fault.{Fault as SpecFault};
 ghost use Rattle.pas_types.specs.declared.stop.Stop.TheVariants as stop;
@@ -54,6 +54,7 @@ pub(crate) fn form_of(
         (type_in scopes.old.spellings.now form.now)) (λ found. made_view scopes.new found.value) result }
     ensures noted { (fault : SpecFault) → noted.old ≡ Some fault → noted.new ≡ Some fault }
     ensures kept { scopes.new ≡ record scopes.old { types = scopes.new.types } }
+    ensures grows { Grows scopes.old.types scopes.new.types }
     ensures whole { IfOk result (λ found. (end_in found.end).is_short ≡ false) }
 {
     match form {
@@ -86,6 +87,7 @@ fn indexes_of(scopes: &mut Scopes<'_>, head: &ArrayHead) -> Result<Items<Range>,
         (spec.indexes_of s (table_view scopes.old.spellings.now scopes.old.types)
         (separated_in (simple_in scopes.old.spellings.now) head.now.indexes)) result }
     ensures kept { scopes.new ≡ record scopes.old { types = scopes.new.types } }
+    ensures grows { Grows scopes.old.types scopes.new.types }
 {
     let mut ranges = Items::new(scopes.alloc);
     ranges.push(index_of(scopes, head.indexes.first)?)?;
@@ -105,6 +107,7 @@ fn index_of(scopes: &mut Scopes<'_>, simple: Simple) -> Result<Range, Stop>
         (checked spec.index_only (spec.simple_of s (table_view scopes.old.spellings.now scopes.old.types)
         (simple_in scopes.old.spellings.now simple))) result }
     ensures kept { scopes.new ≡ record scopes.old { types = scopes.new.types } }
+    ensures grows { Grows scopes.old.types scopes.new.types }
 {
     let index = simple_of(scopes, simple)?;
     match scopes.types.range_of(index.value) {
@@ -159,6 +162,7 @@ fn file_of(scopes: &mut Scopes<'_>, component: Judged<PasType>) -> Result<Judged
         ≡ made (table_view scopes.old.spellings.now scopes.old.types) (spec_types.file (type_view component.value))) }
     ensures memory { IfErr result (λ why. why ≡ stop.OutOfMemory) }
     ensures kept { scopes.new ≡ record scopes.old { types = scopes.new.types } }
+    ensures grows { Grows scopes.old.types scopes.new.types }
     ensures whole { IfOk result (λ found. (end_in found.end).is_short ≡ (end_in component.end).is_short) }
     ensures err { OnErr result (scopes.new ≡ scopes.old) }
 {
@@ -172,9 +176,10 @@ fn file_of(scopes: &mut Scopes<'_>, component: Judged<PasType>) -> Result<Judged
 
 // Arrays of arrays, one for each range, of which the inner ones are made first.
 fn arrays(types: &mut Table, ranges: &[Range], element: PasType) -> Result<PasType, OutOfMemory>
-    ensures { IfOk result (λ found. (spellings : List ℕ)
+    ensures made { IfOk result (λ found. (spellings : List ℕ)
         → record { type = type_view found; table = table_view spellings types.new }
         ≡ spec.arrays (table_view spellings types.old) (map range_view ranges.now) (type_view element)) }
+    ensures grows { Grows types.old types.new }
 {
     let mut made = element;
     let mut left = ranges.len();
@@ -206,6 +211,7 @@ fn array_of(
         (type_view element.value)) }
     ensures memory { IfErr result (λ why. why ≡ stop.OutOfMemory) }
     ensures kept { scopes.new ≡ record scopes.old { types = scopes.new.types } }
+    ensures grows { Grows scopes.old.types scopes.new.types }
     ensures whole { IfOk result (λ found. (end_in found.end).is_short ≡ (end_in element.end).is_short) }
 {
     let element = no_file(scopes, element);
@@ -235,6 +241,7 @@ fn fields_of(
         (fields_view scopes.new.spellings.now (table_view scopes.new.spellings.now scopes.new.types)) result }
     ensures noted { (fault : SpecFault) → noted.old ≡ Some fault → noted.new ≡ Some fault }
     ensures kept { scopes.new ≡ record scopes.old { types = scopes.new.types } }
+    ensures grows { Grows scopes.old.types scopes.new.types }
 {
     let mut names = NameSet::new(scopes.alloc);
     let mut fields = Items::new(scopes.alloc);
@@ -268,6 +275,7 @@ fn group_of<'p>(
         (type_in scopes.old.spellings.now (out-FieldGroup group.now).form)) (made_view scopes.new) result }
     ensures noted { (fault : SpecFault) → noted.old ≡ Some fault → noted.new ≡ Some fault }
     ensures kept { scopes.new ≡ record scopes.old { types = scopes.new.types } }
+    ensures grows { Grows scopes.old.types scopes.new.types }
     ensures names { noted.new ≡ None → OnOk result (names.new ≡ names.old ++ scope.spellings_of
         (separated_in (ident_in scopes.old.spellings.now) (out-FieldGroup group.now).names)) }
 {
@@ -316,6 +324,7 @@ fn record_of(
         (spec_types.fields (map (field_view scopes.old.spellings.now) fields))) }
     ensures memory { IfErr result (λ why. why ≡ stop.OutOfMemory) }
     ensures kept { scopes.new ≡ record scopes.old { types = scopes.new.types } }
+    ensures grows { Grows scopes.old.types scopes.new.types }
     ensures whole { IfOk result (λ found. (end_in found.end).is_short ≡ false) }
 {
     let pas_type = scopes.types.make(Structure::Fields(fields))?;

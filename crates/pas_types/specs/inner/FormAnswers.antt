@@ -1,5 +1,5 @@
 -- What functions on array, record and file types answer.
-use Rattle.std.specs.Prelude.{◌≡◌, ⊤, ℕ, List, [], ◌∷◌, map, Option, Some, None, Result, Ok, Err}
+use Rattle.std.specs.Prelude.{◌≡◌, ⊤, ℕ, List, [], ◌∷◌, map, length, take, Option, Some, None, Result, Ok, Err}
 use Rattle.wb_base.specs.declared.faults.Fault.{Fault}
 use Rattle.pas_syntax.specs.declared.tree.RecordForm as code_record
 use Rattle.pas_syntax.specs.declared.tree.TypeForm.TheViews.{out-RecordForm}
@@ -8,6 +8,7 @@ use Rattle.pas_syntax.specs.Words.{Word}
 use Rattle.pas_syntax.specs.inner.TypeViews as seen
 use Rattle.pas_typed.specs.declared.types.Range.{Range as CodeRange}
 use Rattle.pas_typed.specs.declared.types.Field.{Field as CodeField}
+use Rattle.pas_typed.specs.declared.types.Structure.{Structure}
 use Rattle.pas_typed.specs.Types.{Table, Made}
 use Rattle.pas_typed.specs.TypeViews.{range_view, field_view}
 use Rattle.pas_types.specs.declared.stop.Stop.{Stop}
@@ -73,3 +74,7 @@ abbrev pub SettledIf : {X A : Type 0} → Type 0 → List Word → Judged A → 
 SettledIf Clear words part view None (Ok found) = Means words part (view found)
 SettledIf Clear words part view (Some fault) (Ok found) = Clear → FailsBy words part.marks (stop.Fault fault)
 SettledIf Clear words part view noted (Err why) = Clear → FailsBy words part.marks (first_told noted why)
+
+-- a table of the code that another one begins with
+abbrev pub Grows : List Structure → List Structure → Type 0
+Grows old new = take (length old) new ≡ old

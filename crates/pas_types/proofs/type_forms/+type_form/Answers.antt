@@ -55,6 +55,7 @@ use Rattle.pas_types.proofs.FormStepLemmas.{array_answered, record_fields_fail, 
 use Rattle.pas_types.proofs.FormStepLemmas.{file_answered, simple_answered, array_indexes_unknown}
 use Rattle.pas_types.proofs.FormStepLemmas.{array_element_unknown, array_value, record_unknown, record_value}
 use Rattle.pas_types.proofs.FormStepLemmas.{file_unknown, file_value}
+use Rattle.pas_types.proofs.GrowthLemmas.{grows_on}
 use Rattle.pas_types.proofs.type_forms.+type_form.Goals as goal
 
 pub form_of-returns-in-Simple-clause-answers : goal.form_of-returns-in-Simple-clause-answers
@@ -576,6 +577,7 @@ fields_of-loop-more-init t c =
     c.new-fields.ensures in
     record {
       kept = c.in_ok-pas_type.ensures.kept;
+      grows = c.in_ok-pas_type.ensures.grows;
       noted = c.in_ok-pas_type.ensures.noted;
       names = λ none. c.in_ok-pas_type.ensures.names none
           ∙ ap (λ (names : List (List ℕ)). names ++ spellings_of idents) c.new-names.ensures;
@@ -665,6 +667,8 @@ fields_of-loop-more-preserved t c =
     record {
       kept = c.in_ok-pas_type-2.ensures.kept
           ∙ ap (λ (old : CodeScopes). record old { types = c.group_of-in-loop-more.new.scopes.types }) kept;
+      grows = grows_on c.args.scopes.now.types scopes.types c.group_of-in-loop-more.new.scopes.types
+          c.loop-more.invariant.grows c.in_ok-pas_type-2.ensures.grows;
       noted = λ fault is. c.in_ok-pas_type-2.ensures.noted fault (c.loop-more.invariant.noted fault is);
       names = λ none.
           let clean = none_before c.loop-more.noted noting c.in_ok-pas_type-2.ensures.noted none in
@@ -729,3 +733,35 @@ fields_of-returns-clause-value t c s same =
     ∙ (c.loop-more.invariant.value s same
     ∙ ap (λ (seen : List ℕ). Some (fields_view seen now c.loop-more.fields))
     (sym (spellings_kept c.args.scopes.now scopes c.loop-more.invariant.kept)))
+
+pub fields_of-returns-in_err-pas_type-2-clause-grows : goal.fields_of-returns-in_err-pas_type-2-clause-grows
+fields_of-returns-in_err-pas_type-2-clause-grows t c =
+    grows_on c.args.scopes.now.types c.loop-more.scopes.types c.group_of-in-loop-more.new.scopes.types
+    c.loop-more.invariant.grows c.in_err-pas_type-2.ensures.grows
+
+pub fields_of-returns-in_err-add_fields-2-clause-grows : goal.fields_of-returns-in_err-add_fields-2-clause-grows
+fields_of-returns-in_err-add_fields-2-clause-grows t c =
+    grows_on c.args.scopes.now.types c.loop-more.scopes.types c.group_of-in-loop-more.new.scopes.types
+    c.loop-more.invariant.grows c.in_ok-pas_type-2.ensures.grows
+
+pub form_of-returns-in_err-element-in-Array-clause-grows : goal.form_of-returns-in_err-element-in-Array-clause-grows
+form_of-returns-in_err-element-in-Array-clause-grows t c =
+    grows_on c.args.scopes.now.types c.indexes_of.new.scopes.types c.form_of.new.scopes.types
+    c.in_ok-ranges-in-Array.ensures.grows c.in_err-element-in-Array.ensures.grows
+
+pub form_of-returns-in_ok-element-in-Array-clause-grows : goal.form_of-returns-in_ok-element-in-Array-clause-grows
+form_of-returns-in_ok-element-in-Array-clause-grows t c =
+    grows_on c.args.scopes.now.types c.indexes_of.new.scopes.types c.array_of.new.scopes.types
+    c.in_ok-ranges-in-Array.ensures.grows
+    (grows_on c.indexes_of.new.scopes.types c.form_of.new.scopes.types c.array_of.new.scopes.types
+    c.in_ok-element-in-Array.ensures.grows c.array_of.ensures.grows)
+
+pub form_of-returns-in_ok-fields-in-Record-clause-grows : goal.form_of-returns-in_ok-fields-in-Record-clause-grows
+form_of-returns-in_ok-fields-in-Record-clause-grows t c =
+    grows_on c.args.scopes.now.types c.fields_of.new.scopes.types c.record_of.new.scopes.types
+    c.in_ok-fields-in-Record.ensures.grows c.record_of.ensures.grows
+
+pub form_of-returns-in_ok-component-in-File-clause-grows : goal.form_of-returns-in_ok-component-in-File-clause-grows
+form_of-returns-in_ok-component-in-File-clause-grows t c =
+    grows_on c.args.scopes.now.types c.form_of-in-File.new.scopes.types c.file_of.new.scopes.types
+    c.in_ok-component-in-File.ensures.grows c.file_of.ensures.grows

@@ -4,7 +4,7 @@ use Rattle.pas_typed.specs.TypeViews.{table_view}
 use Rattle.pas_types.specs.Scopes.{Scopes}
 use Rattle.pas_types.specs.TypeForms.{groups_of, field_names}
 use Rattle.pas_types.specs.ScopeViews.{scopes_view, IsClear, Agrees}
-use Rattle.pas_types.specs.inner.FormAnswers.{fields_view}
+use Rattle.pas_types.specs.inner.FormAnswers.{fields_view, Grows}
 use Rattle.pas_types.proofs.GroupLemmas.{so_far, FieldsTold}
 use Rattle.pas_types.proofs.FormSeen.{first_in}
 use Rattle.pas_types.proofs.type_forms.+type_form.Given as goal
@@ -21,6 +21,7 @@ decreases-group_of l = goal.size-group_of l
 abbrev pub invariant-fields_of-loop-more : goal.invariant-fields_of-loop-more
 invariant-fields_of-loop-more l = record {
   kept : l.scopes ≡ record l.fn.scopes { types = l.scopes.types };
+  grows : Grows l.fn.scopes.types l.scopes.types;
   noted : (fault : Fault) → l.fn.noted ≡ Some fault → l.noted ≡ Some fault;
   names : l.noted ≡ None → l.names ≡ field_names (so_far l.fn.scopes.spellings.now
       (first_in l.fn.scopes.spellings.now l.form) (take l.more-index l.more-items));

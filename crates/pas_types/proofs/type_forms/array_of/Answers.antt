@@ -23,7 +23,7 @@ returns-clause-answers c n line opened closed of_line packed index_words words i
     (array_part n line opened closed of_line packed index_words words indexes part)
     (ends_moved (array_words n line opened closed of_line packed index_words words indexes part)
     (array_part n line opened closed of_line packed index_words words indexes part)
-    (arrays table (map range_view ranges) value.type) found end end (c.in_ok-arrays.ensures spellings) refl
+    (arrays table (map range_view ranges) value.type) found end end (c.in_ok-arrays.ensures.made spellings) refl
     (array_ends n line opened closed of_line packed index_words words indexes part (indexes_view before ranges)
     value end
     h (c.no_file-element.ensures.ends words part e)))
@@ -34,6 +34,6 @@ returns-clause-made c =
     let table : Table = table_view spellings c.args.scopes.now.types in
     ap (λ (type : CodePasType). record { type = type_view type; table = table_view spellings c.arrays.new.types })
     c.within_limit.ensures.value
-    ∙ (c.in_ok-arrays.ensures spellings
+    ∙ (c.in_ok-arrays.ensures.made spellings
     ∙ ap (λ (type : CodePasType). arrays table (map range_view c.args.ranges.now) (type_view type))
     c.no_file-element.ensures.value)

@@ -26,6 +26,7 @@ use Rattle.std.specs.Prelude.{unwrap_or, option_map}
 use Rattle.pas_types.specs.TypeForms.{Indexes}
 use Rattle.pas_types.specs.inner.Constants.{IsUnknownBy}
 use Rattle.pas_types.proofs.UnknownLemmas.{of_none, unknown_stop, first_unknown, index_unknown}
+use Rattle.pas_types.proofs.GrowthLemmas.{grows_on}
 use Rattle.pas_types.proofs.type_forms.indexes_of.Goals as goal
 
 abbrev no_index : CodeBehind CodeSimple
@@ -47,6 +48,7 @@ returns-in_err-index_of-clause-answers c s same n =
 pub loop-behind-init : goal.loop-behind-init
 loop-behind-init c = record {
   kept = c.in_ok-index_of.ensures.kept;
+  grows = c.in_ok-index_of.ensures.grows;
   means = λ s same n.
       let spellings = c.args.scopes.now.spellings.now in
       let table : Table = table_view spellings c.args.scopes.now.types in
@@ -90,6 +92,8 @@ loop-behind-preserved c = record {
   kept = c.in_ok-index_of-2.ensures.kept
       ∙ ap (λ (scopes : CodeScopes). record scopes { types = c.index_of-in-loop-behind.new.scopes.types })
       c.loop-behind.invariant.kept;
+  grows = grows_on c.args.scopes.now.types c.loop-behind.scopes.types c.index_of-in-loop-behind.new.scopes.types
+      c.loop-behind.invariant.grows c.in_ok-index_of-2.ensures.grows;
   means = λ s same n.
       let spellings = c.args.scopes.now.spellings.now in
       let table : Table = table_view spellings c.args.scopes.now.types in
@@ -161,3 +165,13 @@ returns-in_err-index_of-2-clause-unknown c s same =
     (spellings_kept c.args.scopes.now c.loop-behind.scopes c.loop-behind.invariant.kept)
     (c.in_err-index_of-2.ensures.unknown s
     (agrees_kept c.args.scopes.now c.loop-behind.scopes c.loop-behind.invariant.kept s same))))
+
+pub returns-in_err-index_of-2-clause-grows : goal.returns-in_err-index_of-2-clause-grows
+returns-in_err-index_of-2-clause-grows c =
+    grows_on c.args.scopes.now.types c.loop-behind.scopes.types c.index_of-in-loop-behind.new.scopes.types
+    c.loop-behind.invariant.grows c.in_err-index_of-2.ensures.grows
+
+pub returns-in_err-push-2-clause-grows : goal.returns-in_err-push-2-clause-grows
+returns-in_err-push-2-clause-grows c =
+    grows_on c.args.scopes.now.types c.loop-behind.scopes.types c.index_of-in-loop-behind.new.scopes.types
+    c.loop-behind.invariant.grows c.in_ok-index_of-2.ensures.grows
