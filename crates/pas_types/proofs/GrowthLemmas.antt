@@ -1,5 +1,5 @@
 -- A table of the code grows.
-use Rattle.std.proofs.Common.{◌≡◌, refl, sym, ap, subst, ◌∙◌, ℕ, ◌≤◌, arith, List, [], ◌∷◌, ◌++◌, take, length}
+use Rattle.std.proofs.Common.{◌≡◌, sym, ap, ◌∙◌, ◌≤◌, arith, List, [], ◌∷◌, ◌++◌, take, length}
 use Rattle.std.proofs.lemmas.List.{take-take, take-append-le, take_all, length-take}
 use Rattle.pas_typed.specs.declared.types.Structure.{Structure}
 use Rattle.pas_types.specs.inner.FormAnswers.{Grows}

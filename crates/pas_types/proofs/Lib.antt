@@ -32,3 +32,5 @@ pub mod GrowthLemmas
 pub mod DeclaredLemmas
 pub mod ConstantRowLemmas
 pub mod RowLemmas
+pub mod TypeRowLemmas
+pub mod TypeNoteLemmas

@@ -7,7 +7,8 @@ use Rattle.pas_types.specs.declared.scopes.Scopes.{Scopes as CodeScopes}
 use Rattle.pas_types.specs.declared.stop.Stop.{Stop}
 use Rattle.pas_types.specs.declared.stop.Stop.TheVariants as stop
 use Rattle.pas_types.specs.Marks.{Marks, known}
-use Rattle.pas_types.specs.Scopes.{Entity, constant, Outer, entity_in}
+use Rattle.pas_types.specs.Scopes.{Entity, constant, type, Outer, entity_in}
+use Rattle.pas_typed.specs.Types.{Made}
 use Rattle.pas_types.specs.TypeForms.{ConstantValue}
 use Rattle.pas_types.specs.Declarations.{program_scopes, entity_or_unclear, Stage}
 use Rattle.pas_types.specs.ScopeViews.{outer_view, IsClear}
@@ -46,6 +47,10 @@ NotesIf Clear words marks (Some fault) noting = noting ≡ Some fault
 -- what a name stands for that is declared as a constant
 abbrev pub constant_meant : Option ConstantValue → Entity
 constant_meant value = entity_or_unclear (known (λ found. constant found.base found.value) value)
+
+-- what a name stands for that is declared as a type
+abbrev pub type_meant : Option Made → Entity
+type_meant value = entity_or_unclear (known (λ found. type found.type) value)
 
 -- declarations that were gone through: from what stood before, what stands behind
 pub record Declares (words : List Word) (stage : Outer → Stage) (old : CodeScopes) (noted : Option Fault)
