@@ -34,19 +34,6 @@ use Rattle.pas_types.proofs.FormLemmas.{array_words, array_index_stops, array_el
 use Rattle.pas_types.proofs.FormLemmas.{file_part_stops, file_stops, record_words, record_stops}
 
 -- what is answered over scopes of which the types alone have changed
-pub answers_kept : (old now : CodeScopes) (view : CodePasType → Made) (form : code_form.TypeForm)
-    (result : Result (CodeJudged CodePasType) Stop) → now ≡ record old { types = now.types }
-    → ((s : Scopes) → Agrees s (scopes_view now) → (n : ℕ) → AnswersIf (IsClear s)
-    (type_words n (type_in now.spellings.now form))
-    (form_of s (table_view now.spellings.now now.types) (type_in now.spellings.now form)) view result)
-    → (s : Scopes) → Agrees s (scopes_view old) → (n : ℕ) → AnswersIf (IsClear s)
-    (type_words n (type_in old.spellings.now form))
-    (form_of s (table_view now.spellings.now now.types) (type_in old.spellings.now form)) view result
-answers_kept old now view form result kept h s same n =
-    subst (λ (spellings : List ℕ). AnswersIf (IsClear s) (type_words n (type_in spellings form))
-    (form_of s (table_view now.spellings.now now.types) (type_in spellings form)) view result)
-    (spellings_kept old now kept) (h s (agrees_kept old now kept s same) n)
-
 pub found_kept : (old now : CodeScopes) (view : CodePasType → Made) (form : code_form.TypeForm) (noted : Option Fault)
     (result : Result (CodeJudged CodePasType) Stop) → now ≡ record old { types = now.types }
     → ((s : Scopes) → Agrees s (scopes_view now) → (n : ℕ) → FoundIf (IsClear s)
@@ -60,6 +47,7 @@ found_kept old now view form noted result kept h s same n =
     (form_of s (table_view now.spellings.now now.types) (type_in spellings form)) view noted result)
     (spellings_kept old now kept) (h s (agrees_kept old now kept s same) n)
 
+-- what is known over such scopes
 pub knows_kept : {X : Type 0} (old now : CodeScopes) (view : X → Made) (form : code_form.TypeForm)
     (result : Result X Stop) → now ≡ record old { types = now.types }
     → ((s : Scopes) → Agrees s (scopes_view now) → Knows

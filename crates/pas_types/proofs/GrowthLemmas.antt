@@ -7,9 +7,6 @@ use Rattle.pas_types.specs.inner.FormAnswers.{Grows}
 pub grows_same : (table : List Structure) → Grows table table
 grows_same table = take_all (length table) table (omega arith)
 
-pub grows_is : (old new : List Structure) → new ≡ old → Grows old new
-grows_is old new is = ap (take (length old)) is ∙ grows_same old
-
 pub grows_push : (old new : List Structure) (found : Structure) → new ≡ old ++ found ∷ [] → Grows old new
 grows_push old new found is =
     ap (take (length old)) is ∙ (take-append-le (length old) old (found ∷ []) (omega arith) ∙ grows_same old)

@@ -1,6 +1,6 @@
 -- Rows of declarations, one behind another.
 use Rattle.std.proofs.Common.{sym, ap, subst, ◌∙◌, ℕ, ◌+◌, ◌<◌, ◌≤◌, List, [], ◌∷◌, ◌++◌, map, length, take}
-use Rattle.std.proofs.Common.{get_or, Option, Some, None}
+use Rattle.std.proofs.Common.{get_or, Option, Some}
 use Rattle.std.specs.Prelude.{flat_map}
 use Rattle.std.proofs.lemmas.List.{append_assoc, append-nil, map-append, take_more, take_all}
 use Rattle.wb_base.specs.declared.faults.Fault.{Fault}
@@ -87,10 +87,6 @@ module _ {A : Type 0} (words : A → List Word) (row : Outer → A → Stage)
         (subst (λ (marks : Marks). Notes (all_words (rows.first ∷ rows.more)) marks a b) (sym (alone found.marks))
         (h.notes outer is));
   }
-
-  pub nothing_declares : (kind : Kind) (scopes : CodeScopes) (noted : Option Fault)
-      → Declares (words_if (rows_words kind words) None) (λ outer. rows_of row outer None) scopes noted scopes noted
-  nothing_declares kind scopes noted = no_rows scopes noted
 
   -- the same over the code's list
   module _ {X : Type 0} (view : X → A) (first : A) (more : List X) (i : ℕ) (old now : CodeScopes)

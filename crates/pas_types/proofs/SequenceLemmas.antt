@@ -117,11 +117,6 @@ module _ {X A : Type 0} (Clear : Type 0) (words : List Word) (part : Judged A) (
   answers_if (Ok found) h = h
   answers_if (Err why) h = λ clear. h
 
-  pub answers_if_stop : (why : Stop) (result : Result (CodeJudged X) Stop)
-      → ((found : Stop) × (result ≡ Err found) × (found ≡ why)) → (Clear → StopsBy words part why)
-      → AnswersIf Clear words part view result
-  answers_if_stop why result is h = subst (AnswersIf Clear words part view) (sym (is.1 ∙ ap Err is.2)) h
-
   pub settles_if_stop : (why : Stop) (result : Result X Stop)
       → ((found : Stop) × (result ≡ Err found) × (found ≡ why)) → (Clear → FailsBy words part.marks why)
       → SettlesIf Clear words part view result
