@@ -6,3 +6,4 @@ pub mod ValueViews
 pub mod StatementViews
 pub mod ShapeLemmas
 pub mod GrowthLemmas
+pub mod ShortTables

@@ -1,5 +1,6 @@
 //! The types of a Pascal program (ISO 7185, 6.4, in this project's profile).
-ghost use Rattle.std.specs.Prelude.{◌≡◌, ℕ, List, [], ◌∷◌, ◌++◌, map, option_map, is_some, sum_by};
+ghost use Rattle.std.specs.Prelude.{◌≡◌, ℕ, List, [], ◌∷◌, ◌++◌, map, length, take, option_map, is_some};
+ghost use Rattle.std.specs.Prelude.{sum_by};
 ghost use Rattle.std.specs.Prelude.{Some, IfOk, OnOk, OnErr};
 ghost use Rattle.std.specs.Option.{option_copied};
 ghost use Rattle.pas_typed.specs.Types as spec;
@@ -361,6 +362,22 @@ impl Table {
         let cells = self.cells_in(&structure);
         self.rows.push(TypeRow { structure, cells })?;
         Ok(PasType::Row(number))
+    }
+
+    /// How many types it has.
+    pub fn len(&self) -> usize
+        ensures { result ≡ length self.now }
+    {
+        self.rows.len()
+    }
+
+    /// Leaves so many types, the first ones, and takes the others away.
+    pub fn shorten(&mut self, count: usize)
+        ensures { self.new ≡ take count self.old }
+    {
+        while self.rows.len() > count {
+            self.rows.pop();
+        }
     }
 
     // The row of a type, if it has one.

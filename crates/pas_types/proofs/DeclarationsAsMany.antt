@@ -57,7 +57,7 @@ labels_many (Some labels) =
     (before_word (at 0 k.Semicolon labels.end) list (numerals_many labels.numbers))
 
 -- rows
-more_rows_many : {A : Type 0} (words : A → List Word) (row : Outer → A → Stage)
+pub more_rows_many : {A : Type 0} (words : A → List Word) (row : Outer → A → Stage)
     → ((outer : Outer) (found : A) → AsMany (words found) (row outer found).marks)
     → (outer : Outer) (rows : List A) → AsMany (flat_map words rows) (more_rows row outer rows).marks
 more_rows_many words row each outer [] = none

@@ -38,12 +38,12 @@ arrays_step table ranges left other element inner some within is =
 -- an index
 module _ (words : List Word) (part : Judged Made) (value : Made) (line : ℕ)
     (h : EndsAs words part value (lawful_end line)) where
-  none_ordinal : range_of value.table value.type ≡ None → index_only value ≡ wrong WRONG_TYPE ∷ []
+  pub none_ordinal : range_of value.table value.type ≡ None → index_only value ≡ wrong WRONG_TYPE ∷ []
   none_ordinal none =
       ap (λ (found : Option Range). if is_some found then unless (not (is_whole_integer value.type)) (wrong TOO_LARGE)
       else wrong WRONG_TYPE ∷ []) none
 
-  some_ordinal : (range : Range) (whole : Bool) → range_of value.table value.type ≡ Some range
+  pub some_ordinal : (range : Range) (whole : Bool) → range_of value.table value.type ≡ Some range
       → is_whole_integer value.type ≡ whole → index_only value ≡ unless (not whole) (wrong TOO_LARGE)
   some_ordinal range whole some is =
       ap (λ (found : Option Range). if is_some found then unless (not (is_whole_integer value.type)) (wrong TOO_LARGE)

@@ -8,3 +8,6 @@ pub mod Constants
 pub mod TypeAnswers
 pub mod Arguments
 pub mod ExpressionAnswers
+pub mod NameAnswers
+pub mod FormAnswers
+pub mod Declared

@@ -9,6 +9,7 @@ ghost use Rattle.pas_types.specs.TypeForms as spec;
 ghost use Rattle.pas_types.specs.ScopeViews.{scopes_view, made_view, IsClear, Agrees};
 ghost use Rattle.pas_types.specs.inner.Answers.{lawful_end, end_in};
 ghost use Rattle.pas_types.specs.inner.TypeAnswers.{no_type_by, AnswersIf, IsRange};
+ghost use Rattle.pas_types.specs.inner.FormAnswers.{IsUnknownIf, Grows};
 
 use crate::constants::{Ordinal, constant_of};
 use crate::judged::Judged;
@@ -27,6 +28,8 @@ pub(crate) fn type_named(scopes: &Scopes<'_>, ident: Ident) -> Result<Judged<Pas
     ensures answers { (n : ℕ) → AnswersIf (IsClear (scopes_view scopes.now))
         (name_at n (ident_in scopes.now.spellings.now ident) ∷ [])
         (spec.type_named (scopes_view scopes.now) (ident_in scopes.now.spellings.now ident)) type_view result }
+    ensures unknown { IsUnknownIf
+        (spec.type_named (scopes_view scopes.now) (ident_in scopes.now.spellings.now ident)) result }
     ensures lawful { IfOk result (λ found. end_in found.end ≡ lawful_end found.end.line) }
 {
     match scopes.named(ident) {
@@ -53,7 +56,11 @@ pub(crate) fn simple_of(scopes: &mut Scopes<'_>, simple: Simple) -> Result<Judge
         (simple_words n (simple_in scopes.old.spellings.now simple))
         (spec.simple_of s (table_view scopes.old.spellings.now scopes.old.types)
         (simple_in scopes.old.spellings.now simple)) (made_view scopes.new) result }
+    ensures unknown { (s : SpecScopes) → Agrees s (scopes_view scopes.old) → IsUnknownIf
+        (spec.simple_of s (table_view scopes.old.spellings.now scopes.old.types)
+        (simple_in scopes.old.spellings.now simple)) result }
     ensures kept { scopes.new ≡ record scopes.old { types = scopes.new.types } }
+    ensures grows { Grows scopes.old.types scopes.new.types }
     ensures err { OnErr result (scopes.new ≡ scopes.old) }
     ensures lawful { IfOk result (λ found. end_in found.end ≡ lawful_end found.end.line) }
 {
@@ -75,7 +82,12 @@ fn subrange_of(
         (spec.subrange_of (table_view scopes.old.spellings.now scopes.old.types)
         (spec.constant_of s (constant_in scopes.old.spellings.now low))
         (spec.constant_of s (constant_in scopes.old.spellings.now high))) (made_view scopes.new) result }
+    ensures unknown { (s : SpecScopes) → Agrees s (scopes_view scopes.old) → IsUnknownIf
+        (spec.subrange_of (table_view scopes.old.spellings.now scopes.old.types)
+        (spec.constant_of s (constant_in scopes.old.spellings.now low))
+        (spec.constant_of s (constant_in scopes.old.spellings.now high))) result }
     ensures kept { scopes.new ≡ record scopes.old { types = scopes.new.types } }
+    ensures grows { Grows scopes.old.types scopes.new.types }
     ensures err { OnErr result (scopes.new ≡ scopes.old) }
     ensures lawful { IfOk result (λ found. end_in found.end ≡ lawful_end found.end.line) }
 {

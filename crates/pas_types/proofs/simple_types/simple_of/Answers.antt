@@ -27,3 +27,6 @@ returns-in-Range-clause-answers c s same n =
     (simple_of s table (simple_in spellings simple)) (made_view c.subrange_of.new.scopes) c.subrange_of.result)
     (sym c.in-Range.is)
     (c.subrange_of.ensures.answers s same n c.in-Range.field-1)
+
+pub returns-in-Range-clause-unknown : goal.returns-in-Range-clause-unknown
+returns-in-Range-clause-unknown c s same = rw c.in-Range.is (c.subrange_of.ensures.unknown s same)

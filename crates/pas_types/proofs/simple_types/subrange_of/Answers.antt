@@ -6,7 +6,7 @@ use Rattle.pas_syntax.specs.Words.{constant_words}
 use Rattle.pas_typed.specs.Types.{Range, subrange, Made, made}
 use Rattle.pas_typed.specs.TypeViews.{type_view, table_view}
 use Rattle.pas_typed.specs.declared.types.PasType.{PasType as CodePasType}
-use Rattle.pas_types.specs.TypeForms.{range_between}
+use Rattle.pas_types.specs.TypeForms.{range_between, constant_of, subrange_of}
 use Rattle.pas_types.specs.ScopeViews.{scopes_view, made_view, IsClear}
 use Rattle.pas_types.specs.inner.Answers.{lawful_end, end_in, StopsBy}
 use Rattle.pas_types.specs.inner.Constants.{ordinal_view}
@@ -14,6 +14,7 @@ use Rattle.pas_types.specs.inner.TypeAnswers.{AnswersIf}
 use Rattle.pas_types.proofs.AnswerLemmas.{ends_moved}
 use Rattle.pas_types.proofs.SubrangeLemmas.{tells_agrees, subrange_words, subrange_part, low_stops, high_stops}
 use Rattle.pas_types.proofs.SubrangeLemmas.{bounds_stop, range_ends, shown_by}
+use Rattle.pas_types.proofs.UnknownLemmas.{by_none, of_none, unknown_stop, low_unknown, high_unknown, bounds_unknown}
 use Rattle.pas_types.proofs.simple_types.subrange_of.Goals as goal
 
 pub returns-in_err-low-clause-answers : goal.returns-in_err-low-clause-answers
@@ -95,3 +96,51 @@ returns-clause-answers c s same n line =
     (lawful_end second.line) (end_in c.lawful.result.end) is c.lawful.ensures.end
     (range_ends s n line table low high (ordinal_view first) (ordinal_view second) first.line second.line ends ended
     c.in_ok-range.ensures.0)
+
+pub returns-in_err-low-clause-unknown : goal.returns-in_err-low-clause-unknown
+returns-in_err-low-clause-unknown c s same =
+    let spellings = c.args.scopes.now.spellings.now in
+    let low : Constant = constant_in spellings c.args.low in
+    let high : Constant = constant_in spellings c.args.high in
+    let table = table_view spellings c.args.scopes.now.types in
+    let why = c.in_err-low.field-0.0 in
+    let told = tells_agrees s (scopes_view c.args.scopes.now) same (constant_words 0 low) low (Err why)
+    (c.in_err-low.ensures.tells 0) in
+    unknown_stop (subrange_of table (constant_of s low) (constant_of s high)) why c.from_residual.result
+    (err_from_is_err_and _ c.from_residual.ensures.1)
+    (of_none (constant_of s low) (subrange_of table (constant_of s low) (constant_of s high)) why
+    (low_unknown table (constant_of s low) (constant_of s high)) told.1)
+
+pub returns-in_err-high-clause-unknown : goal.returns-in_err-high-clause-unknown
+returns-in_err-high-clause-unknown c s same =
+    let spellings = c.args.scopes.now.spellings.now in
+    let low : Constant = constant_in spellings c.args.low in
+    let high : Constant = constant_in spellings c.args.high in
+    let table = table_view spellings c.args.scopes.now.types in
+    let why = c.in_err-high.field-0.0 in
+    let told = tells_agrees s (scopes_view c.args.scopes.now) same (constant_words 0 high) high (Err why)
+    (c.in_err-high.ensures.tells 0) in
+    unknown_stop (subrange_of table (constant_of s low) (constant_of s high)) why c.from_residual-in_err-high.result
+    (err_from_is_err_and _ c.from_residual-in_err-high.ensures.1)
+    (of_none (constant_of s high) (subrange_of table (constant_of s low) (constant_of s high)) why
+    (high_unknown table (constant_of s low) (constant_of s high)) told.1)
+
+pub returns-in_err-range-clause-unknown : goal.returns-in_err-range-clause-unknown
+returns-in_err-range-clause-unknown c s same =
+    let spellings = c.args.scopes.now.spellings.now in
+    let low : Constant = constant_in spellings c.args.low in
+    let high : Constant = constant_in spellings c.args.high in
+    let table = table_view spellings c.args.scopes.now.types in
+    let first = c.in_ok-low.low in
+    let second = c.in_ok-high.high in
+    let why = c.in_err-range.field-0.0 in
+    let ends = tells_agrees s (scopes_view c.args.scopes.now) same (constant_words 0 low) low (Ok first)
+    (c.in_ok-low.ensures.tells 0) in
+    let ended = tells_agrees s (scopes_view c.args.scopes.now) same (constant_words 0 high) high (Ok second)
+    (c.in_ok-high.ensures.tells 0) in
+    let shown = shown_by second.line _ why c.in_err-range.ensures in
+    let whole = subrange_of table (constant_of s low) (constant_of s high) in
+    unknown_stop whole why c.from_residual-in_err-range.result
+    (err_from_is_err_and _ c.from_residual-in_err-range.ensures.1)
+    (by_none whole why (bounds_unknown table (constant_of s low) (constant_of s high) (ordinal_view first)
+    (ordinal_view second) shown.0 ends.known ended.known shown.1))

@@ -2,10 +2,12 @@ use Rattle.std.proofs.Common.{◌≡◌, ◌≤◌, ℕ, List, map, drop, length
 use Rattle.pas_typed.specs.Types.{Made}
 use Rattle.pas_typed.specs.TypeViews.{range_view, type_view, table_view}
 use Rattle.pas_types.specs.TypeForms as spec
+use Rattle.pas_types.specs.inner.FormAnswers.{Grows}
 use Rattle.pas_types.proofs.type_forms.arrays.Given as goal
 
 abbrev pub invariant-loop-left : goal.invariant-loop-left
 invariant-loop-left l = record {
+  grows : Grows l.fn.types l.types;
   within : l.left ≤ length l.ranges;
   same : (spellings : List ℕ) → ◌≡◌ {A = Made} (record {
     type = type_view l.made;

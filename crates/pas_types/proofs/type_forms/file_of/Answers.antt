@@ -27,9 +27,17 @@ returns-clause-answers c words part h =
     let is : found ≡ whole =
     sym (c.in_ok-make.ensures.made spellings)
     ∙ ap (λ (type : CodePasType). made table (file (type_view type))) c.noted-component.ensures.value in
-    ends_moved words (file_part part) whole found (noted_end fit FILE_RULE end) (end_in c.noted-component.result.end) is
+    ends_moved words (file_part part) whole found (noted_end fit FILE_RULE end) (end_in c.noted-component.result.end)
+    is
     c.noted-component.ensures.end
     (made_ends words (λ (found : Made). made found.table (file found.type)) (noted component_only part) value
     (noted_end fit FILE_RULE end)
     (noted_ends words component_only part value end fit FILE_RULE
     (ap (λ (is : Bool). unless is (wrong FILE_RULE)) (c.is_component-is_fit.ensures spellings)) h))
+
+pub returns-clause-made : goal.returns-clause-made
+returns-clause-made c =
+    let spellings = c.args.scopes.now.spellings.now in
+    let table = table_view spellings c.args.scopes.now.types in
+    sym (c.in_ok-make.ensures.made spellings)
+    ∙ ap (λ (type : CodePasType). made table (file (type_view type))) c.noted-component.ensures.value

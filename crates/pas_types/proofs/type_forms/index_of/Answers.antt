@@ -11,6 +11,11 @@ use Rattle.pas_types.specs.inner.Answers.{Ending, EndsAs, StopsBy}
 use Rattle.pas_types.specs.inner.TypeAnswers.{IsIndex}
 use Rattle.pas_types.proofs.AnswerLemmas.{checked_stops_by}
 use Rattle.pas_types.proofs.TypePartLemmas.{no_ordinal_stops, integers_stop, index_means}
+use Rattle.std.proofs.Common.{true}
+use Rattle.wb_base.specs.declared.faults.TheConstants.{WRONG_TYPE, TOO_LARGE}
+use Rattle.pas_tokens.specs.Cutting.{wrong}
+use Rattle.pas_types.proofs.TypePartLemmas.{none_ordinal, some_ordinal}
+use Rattle.pas_types.proofs.UnknownLemmas.{by_none, of_none, unknown_stop, none_checked, refused_checked}
 use Rattle.pas_types.proofs.type_forms.index_of.Goals as goal
 
 pub returns-in_err-index-clause-answers : goal.returns-in_err-index-clause-answers
@@ -73,3 +78,44 @@ returns-else-is_whole_integer-clause-answers c s same n =
           (c.in-Some.ensures c.simple_of.new.scopes.spellings.now)
           (sym c.is_whole_integer.ensures ∙ c.if-is_whole_integer.false),
     )
+
+pub returns-in_err-index-clause-unknown : goal.returns-in_err-index-clause-unknown
+returns-in_err-index-clause-unknown c s same =
+    let spellings = c.args.scopes.now.spellings.now in
+    let part : Judged Made =
+    simple_of s (table_view spellings c.args.scopes.now.types) (simple_in spellings c.args.simple) in
+    let why = c.in_err-index.field-0.0 in
+    unknown_stop (checked index_only part) why c.from_residual.result
+    (err_from_is_err_and _ c.from_residual.ensures.1)
+    (of_none part (checked index_only part) why (none_checked index_only part) (c.in_err-index.ensures.unknown s same))
+
+pub returns-in-None-clause-unknown : goal.returns-in-None-clause-unknown
+returns-in-None-clause-unknown c s same =
+    let spellings = c.args.scopes.now.spellings.now in
+    let words : List Word = simple_words 0 (simple_in spellings c.args.simple) in
+    let part : Judged Made =
+    simple_of s (table_view spellings c.args.scopes.now.types) (simple_in spellings c.args.simple) in
+    let index = c.in_ok-index.index in
+    let value : Made = made_view c.simple_of.new.scopes index.value in
+    let ends = subst (λ (end : Ending). EndsAs words part value end) c.in_ok-index.ensures.lawful
+    (c.in_ok-index.ensures.answers s same 0) in
+    by_none (checked index_only part) c.fault.result
+    (refused_checked index_only part value (wrong WRONG_TYPE) ends.known
+    (none_ordinal words part value index.end.line ends
+    (c.in-None.ensures c.simple_of.new.scopes.spellings.now)))
+
+pub returns-then-is_whole_integer-clause-unknown : goal.returns-then-is_whole_integer-clause-unknown
+returns-then-is_whole_integer-clause-unknown c s same =
+    let spellings = c.args.scopes.now.spellings.now in
+    let words : List Word = simple_words 0 (simple_in spellings c.args.simple) in
+    let part : Judged Made =
+    simple_of s (table_view spellings c.args.scopes.now.types) (simple_in spellings c.args.simple) in
+    let index = c.in_ok-index.index in
+    let value : Made = made_view c.simple_of.new.scopes index.value in
+    let ends = subst (λ (end : Ending). EndsAs words part value end) c.in_ok-index.ensures.lawful
+    (c.in_ok-index.ensures.answers s same 0) in
+    by_none (checked index_only part) c.fault-then-is_whole_integer.result
+    (refused_checked index_only part value (wrong TOO_LARGE) ends.known
+    (some_ordinal words part value index.end.line ends _ true
+    (c.in-Some.ensures c.simple_of.new.scopes.spellings.now)
+    (sym c.is_whole_integer.ensures ∙ c.if-is_whole_integer.true)))

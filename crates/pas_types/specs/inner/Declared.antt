@@ -1,0 +1,59 @@
+-- How far the declarations of a program have come: what the scopes are, and which first fault is noted. Checking goes
+-- on behind a fault, to learn what the names that are declared stand for.
+use Rattle.std.specs.Prelude.{◌≡◌, ℕ, false, List, Option, Some, None, Result, Err}
+use Rattle.wb_base.specs.declared.faults.Fault.{Fault}
+use Rattle.pas_syntax.specs.Words.{Word}
+use Rattle.pas_types.specs.declared.scopes.Scopes.{Scopes as CodeScopes}
+use Rattle.pas_types.specs.declared.stop.Stop.{Stop}
+use Rattle.pas_types.specs.declared.stop.Stop.TheVariants as stop
+use Rattle.pas_types.specs.Marks.{Marks, known}
+use Rattle.pas_types.specs.Scopes.{Entity, constant, type, Outer, entity_in}
+use Rattle.pas_typed.specs.Types.{Made}
+use Rattle.pas_types.specs.TypeForms.{ConstantValue}
+use Rattle.pas_types.specs.Declarations.{program_scopes, entity_or_unclear, Stage}
+use Rattle.pas_types.specs.ScopeViews.{outer_view, IsClear}
+use Rattle.pas_types.specs.inner.Answers.{IsQuiet, Shows}
+
+-- the first fault, behind one that is noted or not
+abbrev pub first_noted : Option Fault → Result (Unit {0}) Stop → Option Fault
+first_noted None (Err (stop.Fault fault)) = Some fault
+first_noted noted found = noted
+
+-- the same names stand for the same, and all else is the same
+pub record IsAlike (outer other : Outer) : Type 0 where
+  pub names : (name : List ℕ) → entity_in outer.names name ≡ entity_in other.names name
+  pub others : record outer { names = other.names } ≡ other
+
+-- the scopes stand for this scope of the program, to the letter where no fault is noted; no name is unclear then
+abbrev pub IsOuter : Outer → CodeScopes → Option Fault → Type 0
+IsOuter outer scopes None = (outer_view scopes ≡ outer) × IsClear (program_scopes outer)
+IsOuter outer scopes (Some fault) = IsAlike (outer_view scopes) outer
+
+pub record IsDeclared (outer : Outer) (scopes : CodeScopes) (noted : Option Fault) : Type 0 where
+  pub alone : scopes.inner ≡ None
+  pub outer_is : IsOuter outer scopes noted
+
+-- what is noted behind words: the first fault stays, or is that of these words
+abbrev pub Notes : List Word → Marks → Option Fault → Option Fault → Type 0
+Notes words marks None None = IsQuiet words marks false
+Notes words marks None (Some fault) = Shows words marks fault
+Notes words marks (Some fault) noted = noted ≡ Some fault
+
+-- the same, where the words' first fault is told if this holds
+abbrev pub NotesIf : Type 0 → List Word → Marks → Option Fault → Option Fault → Type 0
+NotesIf Clear words marks None noting = Clear → Notes words marks None noting
+NotesIf Clear words marks (Some fault) noting = noting ≡ Some fault
+
+-- what a name stands for that is declared as a constant
+abbrev pub constant_meant : Option ConstantValue → Entity
+constant_meant value = entity_or_unclear (known (λ found. constant found.base found.value) value)
+
+-- what a name stands for that is declared as a type
+abbrev pub type_meant : Option Made → Entity
+type_meant value = entity_or_unclear (known (λ found. type found.type) value)
+
+-- declarations that were gone through: from what stood before, what stands behind
+pub record Declares (words : List Word) (stage : Outer → Stage) (old : CodeScopes) (noted : Option Fault)
+    (new : CodeScopes) (noting : Option Fault) : Type 0 where
+  pub declared : (outer : Outer) → IsDeclared outer old noted → IsDeclared (stage outer).outer new noting
+  pub notes : (outer : Outer) → IsDeclared outer old noted → Notes words (stage outer).marks noted noting
