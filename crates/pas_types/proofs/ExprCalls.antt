@@ -90,7 +90,8 @@ module _ (scopes : Scopes) (spellings : List ℕ) (lead deep : ℕ) (name : Iden
   module _ (demand : Demand) where
     sole_by : (P : List Word → Judged Value → Type 0) (more : List code_more.MoreExpr)
         → (out-Exprs exprs).more ≡ more
-        → P (sole_words demand first name_word closing (behind more)) (sole demand first name_word closing (behind more))
+        → P (sole_words demand first name_word closing (behind more)) (sole demand first name_word closing (behind
+        more))
         → P call_words (sole_part demand givens)
     sole_by P more is h =
         as_argued scopes spellings lead deep name opened closed exprs (λ words found. P words (sole_part demand found))
@@ -135,7 +136,8 @@ module _ (scopes : Scopes) (spellings : List ℕ) (lead deep : ℕ) (name : Iden
             → StopsBy call_words (sole_part demand givens) why
         sole_unsettled why is =
             let end : Ending = end_in found.end in
-            let short = unsettled_is end.line (out-MoreExpr more).line end.refusal end.is_short found.value why h.lawful is
+            let short = unsettled_is end.line (out-MoreExpr more).line end.refusal end.is_short found.value why
+            h.lawful is
             in
             sole_by (λ words part. StopsBy words part why) (more ∷ others) (got_first (out-Exprs exprs).more more some)
             (subst (StopsBy (sole_words demand first name_word closing (behind (more ∷ others)))

@@ -1391,7 +1391,8 @@ functions::passed_to-loop-index-init t c clear lead deep opened name =
     (more_argued scopes spellings (lead + 1) deep)
     (argued_expr scopes spellings (lead + 1) deep (at (lead + 1) k.LeftParenthesis opened)
     (expr_in spellings (out-Exprs exprs).first)) (out-Exprs exprs).more (name_at lead name)
-    (at (lead + 1) k.RightParenthesis closed) spellings table c.args.parameters.now [] before c.in_ok-last.last) (sym c.new-passed.ensures)
+    (at (lead + 1) k.RightParenthesis closed) spellings table c.args.parameters.now [] before c.in_ok-last.last) (sym
+    c.new-passed.ensures)
     (passed.begun (argued_more scopes spellings (lead + 1) deep)
     (more_argued scopes spellings (lead + 1) deep)
     (argued_expr scopes spellings (lead + 1) deep (at (lead + 1) k.LeftParenthesis opened)
@@ -1471,7 +1472,8 @@ functions::passed_to-loop-index-preserved t c clear lead deep opened name =
     (more_argued scopes spellings (lead + 1) deep)
     (argued_expr scopes spellings (lead + 1) deep (at (lead + 1) k.LeftParenthesis opened)
     (expr_in spellings (out-Exprs exprs).first)) (out-Exprs exprs).more (name_at lead name)
-    (at (lead + 1) k.RightParenthesis closed) spellings table c.args.parameters.now (take i items ++ c.more-item.result ∷ []) before last) (sym c.in_ok-push.ensures.ok)
+    (at (lead + 1) k.RightParenthesis closed) spellings table c.args.parameters.now (take i items ++
+    c.more-item.result ∷ []) before last) (sym c.in_ok-push.ensures.ok)
     (passed.one_more (argued_more scopes spellings (lead + 1) deep)
     (more_argued scopes spellings (lead + 1) deep)
     (argued_expr scopes spellings (lead + 1) deep (at (lead + 1) k.LeftParenthesis opened)
@@ -1512,7 +1514,8 @@ functions::passed_to-returns-in_err-demand t c clear lead deep opened name =
     (more_argued scopes spellings (lead + 1) deep)
     (argued_expr scopes spellings (lead + 1) deep (at (lead + 1) k.LeftParenthesis opened)
     (expr_in spellings (out-Exprs exprs).first)) (out-Exprs exprs).more (name_at lead name)
-    (at (lead + 1) k.RightParenthesis closed) spellings table c.args.parameters.now done c.loop-index.passed c.loop-index.last)
+    (at (lead + 1) k.RightParenthesis closed) spellings table c.args.parameters.now done c.loop-index.passed
+    c.loop-index.last)
     (taken_all items c.loop-index.index c.loop-index-test.false ∙ c.as_slice-more-items.ensures)
     (c.loop-index.invariant clear lead deep opened name))
     (c.in_ok-push-2.ensures.ok ∙ ap (λ found. c.loop-index.passed ++ found ∷ []) c.in_ok-last-3.ensures.1) why
@@ -1528,7 +1531,8 @@ functions::passed_to-returns t c clear lead deep opened name =
     let closed = c.args.closed in
     let table = scopes.outer.types in
     let items = c.as_slice-more-items.result.now in
-    ends_passing scopes spellings lead deep name opened closed exprs table c.args.parameters.now c.push-2.new.self (end_in c.in_ok-last-3.last.end)
+    ends_passing scopes spellings lead deep name opened closed exprs table c.args.parameters.now c.push-2.new.self
+    (end_in c.in_ok-last-3.last.end)
     (passed.all_end (argued_more scopes spellings (lead + 1) deep)
     (more_argued scopes spellings (lead + 1) deep)
     (argued_expr scopes spellings (lead + 1) deep (at (lead + 1) k.LeftParenthesis opened)
@@ -1539,7 +1543,8 @@ functions::passed_to-returns t c clear lead deep opened name =
     (more_argued scopes spellings (lead + 1) deep)
     (argued_expr scopes spellings (lead + 1) deep (at (lead + 1) k.LeftParenthesis opened)
     (expr_in spellings (out-Exprs exprs).first)) (out-Exprs exprs).more (name_at lead name)
-    (at (lead + 1) k.RightParenthesis closed) spellings table c.args.parameters.now done c.loop-index.passed c.loop-index.last)
+    (at (lead + 1) k.RightParenthesis closed) spellings table c.args.parameters.now done c.loop-index.passed
+    c.loop-index.last)
     (taken_all items c.loop-index.index c.loop-index-test.false ∙ c.as_slice-more-items.ensures)
     (c.loop-index.invariant clear lead deep opened name))
     (c.in_ok-push-2.ensures.ok ∙ ap (λ found. c.loop-index.passed ++ found ∷ []) c.in_ok-last-3.ensures.1)
