@@ -25,8 +25,10 @@ use Rattle.pas_types.specs.declared.stop.Stop.TheVariants as stop
 use Rattle.pas_types.specs.Marks.{Marks, shows, quiet, joined, listed, Judged, judged, known, checked, unless}
 use Rattle.pas_types.specs.Scopes.{Scopes, routine, unclear}
 use Rattle.pas_types.specs.NameViews.{entity_view}
-use Rattle.pas_types.specs.Expressions.{Given, Demand, bare_argument, values_of, as_call, not_called, met, asked_nothing}
-use Rattle.pas_types.specs.Expressions.{heading_of, function_call_of, call_with, called, given, demands_of, passed_to, file_in}
+use Rattle.pas_types.specs.Expressions.{Given, Demand, bare_argument, values_of, as_call, not_called, met}
+use Rattle.pas_types.specs.Expressions.{asked_nothing}
+use Rattle.pas_types.specs.Expressions.{heading_of, function_call_of, call_with, called, given, demands_of, passed_to}
+use Rattle.pas_types.specs.Expressions.{file_in}
 use Rattle.pas_types.specs.Expressions.{is_file, test_demand, first_value}
 use Rattle.pas_types.specs.inner.Stopping.{shown_in}
 use Rattle.pas_types.specs.inner.Answers.{Ending, EndsAs, StopsBy, Answers}

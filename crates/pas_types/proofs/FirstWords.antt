@@ -26,7 +26,8 @@ only_mild base table value = mild_unless _
 -- two operands with an operator between them
 module _ (words more : List Word) (table : Table) (left right : Judged Value) (why : Stop)
     (h : ShowsFirst words left.marks.tokens why) where
-  pub comparison_first : (op : Relation) → ShowsFirst (words ++ more) (comparison_of table left op right).marks.tokens why
+  pub comparison_first : (op : Relation)
+      → ShowsFirst (words ++ more) (comparison_of table left op right).marks.tokens why
   comparison_first op =
       first_words words more _ why
       (first_tokens words (noted (ordinal_only table) left).marks.tokens _ why

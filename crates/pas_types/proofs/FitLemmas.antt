@@ -26,7 +26,8 @@ use Rattle.pas_types.specs.Marks.{checked_by, kept_by, unless, at_first}
 use Rattle.pas_types.specs.Expressions.{Demand, bare, bare_argument, met, asked_nothing, function_demand, only}
 use Rattle.pas_types.specs.Expressions.{demand_of_mode, compatible_with, is_reference, place_in, file_in, file_only}
 use Rattle.pas_types.specs.Expressions.{is_file, test_demand, without_arguments}
-use Rattle.pas_types.specs.inner.Answers.{Ending, noted_end, lawful_end, short_end, stands_by, EndsAs, FailsBy, StandsAs}
+use Rattle.pas_types.specs.inner.Answers.{Ending, noted_end, lawful_end, short_end, stands_by, EndsAs, FailsBy}
+use Rattle.pas_types.specs.inner.Answers.{StandsAs}
 use Rattle.pas_types.specs.inner.Answers.{Means, Stands}
 use Rattle.pas_types.specs.declared.judged.Judged.{Judged as CodeJudged}
 use Rattle.pas_typed.specs.declared.typed.Variable.{Variable as CodeVariable}

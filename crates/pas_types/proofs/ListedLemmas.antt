@@ -163,7 +163,8 @@ module _ {B : Type 0} (name : Word) (before : List (Item B)) (item : Item B) (af
       (behind_items (item ∷ after)) fault h
       (shows_behind (item.before ∷ []) (item.words ++ item_words after) quiet
       (followed item.part.marks (behind_items after)) fault (quiet_word item.before)
-      (shows_front item.words (item_words after) item.part.marks (behind_items after) fault (behind_many after many) k)))
+      (shows_front item.words (item_words after) item.part.marks (behind_items after) fault (behind_many after many)
+      k)))
   item_fails stop.Missing many h k = absurd k
 
   pub item_short : AreMany (item ∷ after) → IsQuiet (name ∷ item_words before) (items_marks before) true

@@ -1,5 +1,6 @@
 -- The arguments of a call as they are passed, one after another.
-use Rattle.std.proofs.Common.{◌≡◌, refl, sym, ap, subst, ◌∙◌, ℕ, suc, ◌+◌, arith, Bool, true, false, List, [], ◌∷◌, ◌++◌}
+use Rattle.std.proofs.Common.{◌≡◌, refl, sym, ap, subst, ◌∙◌, ℕ, suc, ◌+◌, arith, Bool, true, false, List, [], ◌∷◌}
+use Rattle.std.proofs.Common.{◌++◌}
 use Rattle.std.proofs.Common.{length, map, Option, None, Result, Ok, Err}
 use Rattle.std.specs.Prelude.{nat_le, slice_get, option_map}
 use Rattle.std.proofs.lemmas.List.{map-append}
@@ -211,7 +212,8 @@ module _ {M : Type 0} (argued : M → Argued) (many : (more : List M) → AreArg
           demand_holds true h = refl
           demand_holds false h = cc
 
-      pub too_few_stop : (why : Stop) → Err why ≡ demanded (nat_le (length parameters) (length all)) WRONG_TYPE closing.token.line
+      pub too_few_stop : (why : Stop)
+          → Err why ≡ demanded (nat_le (length parameters) (length all)) WRONG_TYPE closing.token.line
           → StopsBy words part why
       too_few_stop why h =
           let few = demand_fails (nat_le (length parameters) (length all)) h in
@@ -249,7 +251,8 @@ module _ {M : Type 0} (argued : M → Argued) (many : (more : List M) → AreArg
       closing_means whole holds =
           let end : Ending = end_in last.end in
           let ends : Ends words part (passed_views all) closing.token.line None false =
-          subst (λ (is_short : Bool). Ends words part (passed_views all) closing.token.line (refusal_behind is_short) false)
+          subst (λ (is_short : Bool). Ends words part (passed_views all) closing.token.line (refusal_behind is_short)
+          false)
           whole (all_end (closed_end closing.token.line end) refl holds) in
           record {
             known = ends.known;

@@ -60,7 +60,8 @@ module _ (scopes : Scopes) (spellings : List ℕ) (n : ℕ) (name : Ident) (argu
         (sole demand first (name_at n name) closing (behind more)) → P words part
     sole_by P more is h =
         as_actuals scopes spellings n name arguments (λ words found. P words (sole_part demand found))
-        (subst (λ (more : List (CodeBehind CodeArgument)). P (sole_words demand first (name_at n name) closing (behind more))
+        (subst (λ (more : List (CodeBehind CodeArgument)). P (sole_words demand first (name_at n name) closing (behind
+        more))
         (sole demand first (name_at n name) closing (behind more))) (sym is) h)
 
     -- the argument itself fails
@@ -89,7 +90,8 @@ module _ (scopes : Scopes) (spellings : List ℕ) (n : ℕ) (name : Ident) (argu
 
     module _ (value : Value) (end : Ending)
         (h : StandsAs (expr_words (n + 1) 0 expr) (taken_as (plainly demand) (value_of scopes expr)) value end) where
-      bare : StandsAs (expr_words (n + 1) 0 expr) (taken_by (Some (plainly demand)) (bare_argument (value_of scopes expr)))
+      bare : StandsAs (expr_words (n + 1) 0 expr) (taken_by (Some (plainly demand)) (bare_argument (value_of scopes
+          expr)))
           value end
       bare =
           subst (λ (part : Judged Value). StandsAs (expr_words (n + 1) 0 expr) part value end)
@@ -126,7 +128,8 @@ module _ (scopes : Scopes) (spellings : List ℕ) (n : ℕ) (name : Ident) (argu
           let same = settled_is end.line arguments.closed end.refusal end.is_short found.value value h.lawful is in
           subst (λ (v : X). Settles words part view (Ok v)) (sym same.0)
           (settles_at words part view found.value arguments.closed None false
-          (subst (λ (is_short : Bool). Ends words part (view found.value) arguments.closed (refusal_behind is_short) false)
+          (subst (λ (is_short : Bool). Ends words part (view found.value) arguments.closed (refusal_behind is_short)
+          false)
           whole ends))
       closed_by false (Err why) whole is ends =
           let end : Ending = end_in found.end in
@@ -141,7 +144,8 @@ module _ (scopes : Scopes) (spellings : List ℕ) (n : ℕ) (name : Ident) (argu
           let shown = unsettled_is end.line arguments.closed end.refusal end.is_short found.value why h.lawful is in
           subst (λ (w : Stop). Settles words part view (Err w)) (sym shown.1)
           (settles_at words part view found.value arguments.closed (Some (wrong WRONG_TYPE)) false
-          (subst (λ (is_short : Bool). Ends words part (view found.value) arguments.closed (refusal_behind is_short) false)
+          (subst (λ (is_short : Bool). Ends words part (view found.value) arguments.closed (refusal_behind is_short)
+          false)
           short ends))
 
       pub alone_none : (result : Result X Stop) → None ≡ slice_get arguments.items.more 0
@@ -149,7 +153,8 @@ module _ (scopes : Scopes) (spellings : List ℕ) (n : ℕ) (name : Ident) (argu
           → Settles words part view result
       alone_none result none is =
           closed_by (end_in found.end).is_short result refl is
-          (sole_by (λ words part. EndsAs words part (view found.value) (closed_end arguments.closed (end_in found.end))) []
+          (sole_by (λ words part. EndsAs words part (view found.value) (closed_end arguments.closed (end_in
+          found.end))) []
           (got_none arguments.items.more none)
           (sole_ends demand first (name_at n name) closing (view found.value) (end_in found.end) h))
 

@@ -1,5 +1,6 @@
 //! Calls of functions (ISO 7185, 6.7.3, in this project's profile).
-ghost use Rattle.std.specs.Prelude.{◌≡◌, ◌≢◌, ◌∷◌, [], ℕ, ◌+◌, ◌&&◌, List, map, Some, None, is_some, codes, option_map, IfOk, OnErr};
+ghost use Rattle.std.specs.Prelude.{◌≡◌, ◌≢◌, ◌∷◌, [], ℕ, ◌+◌, ◌&&◌, List, map, Some, None, is_some, codes};
+ghost use Rattle.std.specs.Prelude.{option_map, IfOk, OnErr};
 ghost use Rattle.std.specs.Option.{option_copied};
 ghost use Rattle.wb_base.specs.declared.faults.TheConstants.{WRONG_TYPE as WRONG_TYPE_CODE};
 ghost use Rattle.pas_tokens.specs.Cutting.{wrong};
@@ -11,7 +12,8 @@ ghost use Rattle.pas_typed.specs.Types.{Table as SpecTable};
 ghost use Rattle.pas_typed.specs.Typed as typed;
 ghost use Rattle.pas_typed.specs.Typed.{Value as SpecValue, Passed as SpecPassed};
 ghost use Rattle.pas_typed.specs.TypeOf.{type_of, type_of_function};
-ghost use Rattle.pas_typed.specs.TypedViews.{value_view, place_view, passed_view, passed_views, variable_view, heading_view, mode_view, function_view, file_test_view};
+ghost use Rattle.pas_typed.specs.TypedViews.{value_view, place_view, passed_view, passed_views, variable_view};
+ghost use Rattle.pas_typed.specs.TypedViews.{heading_view, mode_view, function_view, file_test_view};
 ghost use Rattle.pas_typed.specs.TypeViews.{type_view};
 ghost use Rattle.pas_types.specs.Marks.{at_first, checked, unless, Judged as SpecJudged};
 ghost use Rattle.pas_types.specs.Scopes as spec_entity;
@@ -23,7 +25,8 @@ ghost use Rattle.pas_types.specs.inner.Answers.{end_in, EndsAs, Answers, FailsBy
 ghost use Rattle.pas_types.specs.inner.ExpressionAnswers.{SettlesBefore};
 ghost use Rattle.pas_types.specs.TypeForms.{char_in, undoubled};
 ghost use Rattle.pas_types.specs.inner.Arguments.{ShowsFirst, first_name_shows, taken_by, taken_as, passing_in};
-ghost use Rattle.pas_types.specs.inner.Arguments.{plainly, passing_part, called_part, sole_part, is_asked_of, not_asked};
+ghost use Rattle.pas_types.specs.inner.Arguments.{plainly, passing_part, called_part, sole_part, is_asked_of};
+ghost use Rattle.pas_types.specs.inner.Arguments.{not_asked};
 
 use crate::constants::single_byte;
 use crate::expressions::value_of;

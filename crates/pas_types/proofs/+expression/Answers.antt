@@ -54,9 +54,6 @@ use Rattle.pas_types.proofs.LabelSeen.{taken_more, taken_all}
 use Rattle.pas_types.proofs.ExprSeen.{call_out}
 use Rattle.pas_types.proofs.EntityCalls.{tested_part, tested_stops, tested_ends, stop_made, other_call, refused_call}
 use Rattle.pas_types.proofs.EntityCalls.{function_part, procedure_part}
-use Rattle.pas_types.proofs.ExprCalls.{passing, SoFar, first_passed_stops, begun, more_unsettled, more_stops}
-use Rattle.pas_types.proofs.ExprCalls.{one_more, too_few_stop, all_end, taken_split, taken_count, call_words, givens}
-use Rattle.pas_types.proofs.ExprCalls.{sole_first}
 use Rattle.pas_types.proofs.CallAnswers.{stopped_fails, stands_never}
 use Rattle.pas_types.proofs.FitLemmas.{seen_parameter, no_parameter}
 use Rattle.pas_tokens.specs.declared.kinds.Kind.TheVariants as k
@@ -69,6 +66,10 @@ use Rattle.pas_typed.specs.Typed as typed
 use Rattle.pas_types.specs.Expressions as spec
 use Rattle.pas_typed.specs.declared.typed.Value.TheVariants as value_variant
 use Rattle.pas_typed.specs.declared.typed.Passed as code_passed
+use Rattle.pas_types.proofs.ExprCalls.{call_words, givens, sole_first, passing, stops_passing, ends_passing}
+use Rattle.pas_types.proofs.ExprCalls.{taken_split, taken_count}
+use Rattle.pas_types.proofs.ExprArguments.{argued_expr, argued_more, more_argued}
+use Rattle.pas_types.proofs.PassedLemmas as passed
 use Rattle.pas_types.proofs.+expression.Goals as goal
 
 -- what is answered of a part of the tree
@@ -1371,8 +1372,13 @@ functions::passed_to-returns-in_err-last t c clear lead deep opened name =
     answers_stop (call_words scopes spellings lead deep name opened closed exprs)
     (passing scopes spellings lead deep name opened closed exprs table c.args.parameters.now) passed_views why
     c.from_residual.result (err_from_is_err_and _ c.from_residual.ensures.1)
-    (first_passed_stops scopes spellings lead deep name opened closed exprs table c.args.parameters.now
-    (option_copied c.get.result) why c.get.ensures.value (c.in_err-last.ensures clear (lead + 1) deep))
+    (stops_passing scopes spellings lead deep name opened closed exprs table c.args.parameters.now why
+    (passed.first_stops (argued_more scopes spellings (lead + 1) deep)
+    (more_argued scopes spellings (lead + 1) deep)
+    (argued_expr scopes spellings (lead + 1) deep (at (lead + 1) k.LeftParenthesis opened)
+    (expr_in spellings (out-Exprs exprs).first)) (out-Exprs exprs).more (name_at lead name)
+    (at (lead + 1) k.RightParenthesis closed) spellings table c.args.parameters.now
+    (option_copied c.get.result) why c.get.ensures.value (c.in_err-last.ensures clear (lead + 1) deep)))
 
 pub functions::passed_to-loop-index-init : goal.functions::passed_to-loop-index-init
 functions::passed_to-loop-index-init t c clear lead deep opened name =
@@ -1381,9 +1387,17 @@ functions::passed_to-loop-index-init t c clear lead deep opened name =
     let exprs = c.args.arguments.now in
     let closed = c.args.closed in
     let table = scopes.outer.types in
-    subst (λ (passed : List code_passed.Passed). SoFar scopes spellings lead deep name opened closed exprs table
-    c.args.parameters.now [] passed c.in_ok-last.last) (sym c.new-passed.ensures)
-    (begun scopes spellings lead deep name opened closed exprs table c.args.parameters.now
+    subst (λ (before : List code_passed.Passed). passed.SoFar (argued_more scopes spellings (lead + 1) deep)
+    (more_argued scopes spellings (lead + 1) deep)
+    (argued_expr scopes spellings (lead + 1) deep (at (lead + 1) k.LeftParenthesis opened)
+    (expr_in spellings (out-Exprs exprs).first)) (out-Exprs exprs).more (name_at lead name)
+    (at (lead + 1) k.RightParenthesis closed) spellings table c.args.parameters.now [] before c.in_ok-last.last) (sym
+    c.new-passed.ensures)
+    (passed.begun (argued_more scopes spellings (lead + 1) deep)
+    (more_argued scopes spellings (lead + 1) deep)
+    (argued_expr scopes spellings (lead + 1) deep (at (lead + 1) k.LeftParenthesis opened)
+    (expr_in spellings (out-Exprs exprs).first)) (out-Exprs exprs).more (name_at lead name)
+    (at (lead + 1) k.RightParenthesis closed) spellings table c.args.parameters.now
     (option_copied c.get.result) c.in_ok-last.last c.get.ensures.value
     (c.in_ok-last.ensures clear (lead + 1) deep))
 
@@ -1400,11 +1414,16 @@ functions::passed_to-returns-in_err-before t c clear lead deep opened name =
     answers_stop (call_words scopes spellings lead deep name opened closed exprs)
     (passing scopes spellings lead deep name opened closed exprs table c.args.parameters.now) passed_views why
     c.from_residual-in_err-before.result (err_from_is_err_and _ c.from_residual-in_err-before.ensures.1)
-    (more_unsettled scopes spellings lead deep name opened closed exprs table c.args.parameters.now
+    (stops_passing scopes spellings lead deep name opened closed exprs table c.args.parameters.now why
+    (passed.more_unsettled (argued_more scopes spellings (lead + 1) deep)
+    (more_argued scopes spellings (lead + 1) deep)
+    (argued_expr scopes spellings (lead + 1) deep (at (lead + 1) k.LeftParenthesis opened)
+    (expr_in spellings (out-Exprs exprs).first)) (out-Exprs exprs).more (name_at lead name)
+    (at (lead + 1) k.RightParenthesis closed) spellings table c.args.parameters.now
     (take i items) c.loop-index.passed c.loop-index.last (c.loop-index.invariant clear lead deep opened name)
     c.more-item.result (drop (suc i) items) why
     (taken_split items (out-Exprs exprs).more i c.more-item.result c.as_slice-more-items.ensures c.loop-index-test.true
-    c.more-item.is) c.in_err-before.ensures)
+    c.more-item.is) c.in_err-before.ensures))
 
 pub functions::passed_to-returns-in_err-last-2 : goal.functions::passed_to-returns-in_err-last-2
 functions::passed_to-returns-in_err-last-2 t c clear lead deep opened name =
@@ -1419,14 +1438,19 @@ functions::passed_to-returns-in_err-last-2 t c clear lead deep opened name =
     answers_stop (call_words scopes spellings lead deep name opened closed exprs)
     (passing scopes spellings lead deep name opened closed exprs table c.args.parameters.now) passed_views why
     c.from_residual-in_err-last-2.result (err_from_is_err_and _ c.from_residual-in_err-last-2.ensures.1)
-    (more_stops scopes spellings lead deep name opened closed exprs table c.args.parameters.now
+    (stops_passing scopes spellings lead deep name opened closed exprs table c.args.parameters.now why
+    (passed.more_stops (argued_more scopes spellings (lead + 1) deep)
+    (more_argued scopes spellings (lead + 1) deep)
+    (argued_expr scopes spellings (lead + 1) deep (at (lead + 1) k.LeftParenthesis opened)
+    (expr_in spellings (out-Exprs exprs).first)) (out-Exprs exprs).more (name_at lead name)
+    (at (lead + 1) k.RightParenthesis closed) spellings table c.args.parameters.now
     (take i items) c.loop-index.passed c.loop-index.last (c.loop-index.invariant clear lead deep opened name)
     c.more-item.result c.in_ok-before.field-0 c.in_ok-before.ensures (option_copied c.get-in-loop-index.result)
     (c.get-in-loop-index.ensures.value ∙ ap (λ (n : ℕ). slice_get c.args.parameters.now (n + 1))
     (sym (taken_count items i (omega (arith, c.loop-index-test.true)))))
     (drop (suc i) items) why
     (taken_split items (out-Exprs exprs).more i c.more-item.result c.as_slice-more-items.ensures c.loop-index-test.true
-    c.more-item.is) (c.in_err-last-2.ensures clear (lead + 1) deep))
+    c.more-item.is) (c.in_err-last-2.ensures clear (lead + 1) deep)))
 
 pub functions::passed_to-loop-index-preserved : goal.functions::passed_to-loop-index-preserved
 functions::passed_to-loop-index-preserved t c clear lead deep opened name =
@@ -1438,12 +1462,23 @@ functions::passed_to-loop-index-preserved t c clear lead deep opened name =
     let items = c.as_slice-more-items.result.now in
     let i = c.loop-index.index in
     let last = c.in_ok-last-2.last in
-    subst (λ (done : List code_more.MoreExpr). SoFar scopes spellings lead deep name opened closed exprs table
-    c.args.parameters.now done c.push.new.self last)
+    subst (λ (done : List code_more.MoreExpr). passed.SoFar (argued_more scopes spellings (lead + 1) deep)
+    (more_argued scopes spellings (lead + 1) deep)
+    (argued_expr scopes spellings (lead + 1) deep (at (lead + 1) k.LeftParenthesis opened)
+    (expr_in spellings (out-Exprs exprs).first)) (out-Exprs exprs).more (name_at lead name)
+    (at (lead + 1) k.RightParenthesis closed) spellings table c.args.parameters.now done c.push.new.self last)
     (sym (taken_more items i c.more-item.result c.loop-index-test.true c.more-item.is))
-    (subst (λ (passed : List code_passed.Passed). SoFar scopes spellings lead deep name opened closed exprs table
-    c.args.parameters.now (take i items ++ c.more-item.result ∷ []) passed last) (sym c.in_ok-push.ensures.ok)
-    (one_more scopes spellings lead deep name opened closed exprs table c.args.parameters.now
+    (subst (λ (before : List code_passed.Passed). passed.SoFar (argued_more scopes spellings (lead + 1) deep)
+    (more_argued scopes spellings (lead + 1) deep)
+    (argued_expr scopes spellings (lead + 1) deep (at (lead + 1) k.LeftParenthesis opened)
+    (expr_in spellings (out-Exprs exprs).first)) (out-Exprs exprs).more (name_at lead name)
+    (at (lead + 1) k.RightParenthesis closed) spellings table c.args.parameters.now (take i items ++
+    c.more-item.result ∷ []) before last) (sym c.in_ok-push.ensures.ok)
+    (passed.one_more (argued_more scopes spellings (lead + 1) deep)
+    (more_argued scopes spellings (lead + 1) deep)
+    (argued_expr scopes spellings (lead + 1) deep (at (lead + 1) k.LeftParenthesis opened)
+    (expr_in spellings (out-Exprs exprs).first)) (out-Exprs exprs).more (name_at lead name)
+    (at (lead + 1) k.RightParenthesis closed) spellings table c.args.parameters.now
     (take i items) c.loop-index.passed c.loop-index.last (c.loop-index.invariant clear lead deep opened name)
     c.more-item.result c.in_ok-before.field-0 c.in_ok-before.ensures (option_copied c.get-in-loop-index.result)
     (c.get-in-loop-index.ensures.value ∙ ap (λ (n : ℕ). slice_get c.args.parameters.now (n + 1))
@@ -1468,16 +1503,25 @@ functions::passed_to-returns-in_err-demand t c clear lead deep opened name =
     answers_stop (call_words scopes spellings lead deep name opened closed exprs)
     (passing scopes spellings lead deep name opened closed exprs table c.args.parameters.now) passed_views why
     c.from_residual-in_err-demand.result (err_from_is_err_and _ c.from_residual-in_err-demand.ensures.1)
-    (too_few_stop scopes spellings lead deep name opened closed exprs table c.args.parameters.now
+    (stops_passing scopes spellings lead deep name opened closed exprs table c.args.parameters.now why
+    (passed.too_few_stop (argued_more scopes spellings (lead + 1) deep)
+    (more_argued scopes spellings (lead + 1) deep)
+    (argued_expr scopes spellings (lead + 1) deep (at (lead + 1) k.LeftParenthesis opened)
+    (expr_in spellings (out-Exprs exprs).first)) (out-Exprs exprs).more (name_at lead name)
+    (at (lead + 1) k.RightParenthesis closed) spellings table c.args.parameters.now
     c.loop-index.passed c.push-2.new.self c.loop-index.last
-    (subst (λ (done : List code_more.MoreExpr). SoFar scopes spellings lead deep name opened closed exprs table
-    c.args.parameters.now done c.loop-index.passed c.loop-index.last)
+    (subst (λ (done : List code_more.MoreExpr). passed.SoFar (argued_more scopes spellings (lead + 1) deep)
+    (more_argued scopes spellings (lead + 1) deep)
+    (argued_expr scopes spellings (lead + 1) deep (at (lead + 1) k.LeftParenthesis opened)
+    (expr_in spellings (out-Exprs exprs).first)) (out-Exprs exprs).more (name_at lead name)
+    (at (lead + 1) k.RightParenthesis closed) spellings table c.args.parameters.now done c.loop-index.passed
+    c.loop-index.last)
     (taken_all items c.loop-index.index c.loop-index-test.false ∙ c.as_slice-more-items.ensures)
     (c.loop-index.invariant clear lead deep opened name))
     (c.in_ok-push-2.ensures.ok ∙ ap (λ found. c.loop-index.passed ++ found ∷ []) c.in_ok-last-3.ensures.1) why
     (c.in_err-demand.ensures
     ∙ ap (λ (n : ℕ). demanded (nat_le n c.len-2.result) WRONG_TYPE_CODE closed) c.len.ensures
-    ∙ ap (λ (n : ℕ). demanded (nat_le (length c.args.parameters.now) n) WRONG_TYPE_CODE closed) c.len-2.ensures))
+    ∙ ap (λ (n : ℕ). demanded (nat_le (length c.args.parameters.now) n) WRONG_TYPE_CODE closed) c.len-2.ensures)))
 
 pub functions::passed_to-returns : goal.functions::passed_to-returns
 functions::passed_to-returns t c clear lead deep opened name =
@@ -1487,14 +1531,24 @@ functions::passed_to-returns t c clear lead deep opened name =
     let closed = c.args.closed in
     let table = scopes.outer.types in
     let items = c.as_slice-more-items.result.now in
-    all_end scopes spellings lead deep name opened closed exprs table c.args.parameters.now
+    ends_passing scopes spellings lead deep name opened closed exprs table c.args.parameters.now c.push-2.new.self
+    (end_in c.in_ok-last-3.last.end)
+    (passed.all_end (argued_more scopes spellings (lead + 1) deep)
+    (more_argued scopes spellings (lead + 1) deep)
+    (argued_expr scopes spellings (lead + 1) deep (at (lead + 1) k.LeftParenthesis opened)
+    (expr_in spellings (out-Exprs exprs).first)) (out-Exprs exprs).more (name_at lead name)
+    (at (lead + 1) k.RightParenthesis closed) spellings table c.args.parameters.now
     c.loop-index.passed c.push-2.new.self c.loop-index.last
-    (subst (λ (done : List code_more.MoreExpr). SoFar scopes spellings lead deep name opened closed exprs table
-    c.args.parameters.now done c.loop-index.passed c.loop-index.last)
+    (subst (λ (done : List code_more.MoreExpr). passed.SoFar (argued_more scopes spellings (lead + 1) deep)
+    (more_argued scopes spellings (lead + 1) deep)
+    (argued_expr scopes spellings (lead + 1) deep (at (lead + 1) k.LeftParenthesis opened)
+    (expr_in spellings (out-Exprs exprs).first)) (out-Exprs exprs).more (name_at lead name)
+    (at (lead + 1) k.RightParenthesis closed) spellings table c.args.parameters.now done c.loop-index.passed
+    c.loop-index.last)
     (taken_all items c.loop-index.index c.loop-index-test.false ∙ c.as_slice-more-items.ensures)
     (c.loop-index.invariant clear lead deep opened name))
     (c.in_ok-push-2.ensures.ok ∙ ap (λ found. c.loop-index.passed ++ found ∷ []) c.in_ok-last-3.ensures.1)
     (end_in c.in_ok-last-3.last.end) c.in_ok-last-3.ensures.2
     (c.in_ok-demand.ensures
     ∙ ap (λ (n : ℕ). demanded (nat_le n c.len-2.result) WRONG_TYPE_CODE closed) c.len.ensures
-    ∙ ap (λ (n : ℕ). demanded (nat_le (length c.args.parameters.now) n) WRONG_TYPE_CODE closed) c.len-2.ensures)
+    ∙ ap (λ (n : ℕ). demanded (nat_le (length c.args.parameters.now) n) WRONG_TYPE_CODE closed) c.len-2.ensures))

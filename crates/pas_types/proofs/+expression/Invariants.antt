@@ -9,7 +9,13 @@ use Rattle.pas_types.specs.Marks.{Judged}
 use Rattle.pas_types.specs.Expressions.{place_of, elements_at}
 use Rattle.pas_types.specs.ScopeViews.{scopes_view, IsClear}
 use Rattle.pas_types.specs.inner.Answers.{end_in, EndsAs, StandsAs}
-use Rattle.pas_types.proofs.ExprCalls.{SoFar}
+use Rattle.std.proofs.Common.{◌+◌}
+use Rattle.pas_tokens.specs.declared.kinds.Kind.TheVariants as k
+use Rattle.pas_syntax.specs.declared.tree.Expr.TheViews.{out-Exprs}
+use Rattle.pas_syntax.specs.Words.{at, name_at}
+use Rattle.pas_syntax.specs.Views.{expr_in}
+use Rattle.pas_types.proofs.ExprArguments.{argued_expr, argued_more, more_argued}
+use Rattle.pas_types.proofs.PassedLemmas.{SoFar}
 use Rattle.pas_types.proofs.+expression.Given as goal
 
 abbrev pub invariant-variables::more_elements-loop-more :
@@ -39,5 +45,9 @@ abbrev pub invariant-functions::passed_to-loop-index :
     goal.invariant-functions::passed_to-loop-index
 invariant-functions::passed_to-loop-index l =
     IsClear (scopes_view l.scopes) → (lead deep opened : ℕ) → (name : Ident)
-    → SoFar (scopes_view l.scopes) l.scopes.spellings.now lead deep name opened l.closed l.arguments
-    (scopes_view l.scopes).outer.types l.parameters (take l.index l.more-items) l.passed l.last
+    → SoFar (argued_more (scopes_view l.scopes) l.scopes.spellings.now (lead + 1) deep)
+    (more_argued (scopes_view l.scopes) l.scopes.spellings.now (lead + 1) deep)
+    (argued_expr (scopes_view l.scopes) l.scopes.spellings.now (lead + 1) deep
+    (at (lead + 1) k.LeftParenthesis opened) (expr_in l.scopes.spellings.now (out-Exprs l.arguments).first))
+    (out-Exprs l.arguments).more (name_at lead name) (at (lead + 1) k.RightParenthesis l.closed)
+    l.scopes.spellings.now (scopes_view l.scopes).outer.types l.parameters (take l.index l.more-items) l.passed l.last

@@ -71,7 +71,8 @@ returns-in_err-status-2 c clear n name =
     let expr = expr_in spellings arguments.items.first.value in
     let view = statement_view spellings in
     let why = c.in_err-status-2.field-0.0 in
-    settles_stop words (judged part.marks (known typed.halts part.value)) view why c.from_residual-in_err-status-2.result
+    settles_stop words (judged part.marks (known typed.halts part.value)) view why
+    c.from_residual-in_err-status-2.result
     (err_from_is_err_and _ c.from_residual-in_err-status-2.ensures.1)
     (c.in_err-status-2.ensures n name demand value_view
     (c.in_ok-status.ensures (expr_words (n + 1) 0 expr) (value_of scopes expr)

@@ -16,7 +16,8 @@ returns-else-is_empty c n =
     let spellings = c.args.scopes.now.spellings.now in
     let word = name_at n (ident_in spellings c.args.ident) in
     let parameters = map (variable_view spellings) c.args.heading.now.parameters in
-    subst (λ (result : Option PasType). IsQuiet (word ∷ []) (routine_without c.args.number result parameters).marks true)
+    subst (λ (result : Option PasType). IsQuiet (word ∷ []) (routine_without c.args.number result parameters).marks
+    true)
     (sym (ap (option_map type_view) c.in-None.is))
     (statement_misses word c.args.number parameters
     (some_mapped (variable_view spellings) c.args.heading.now.parameters

@@ -35,9 +35,11 @@ returns-in_err-last c clear n name =
     as_actuals scopes spellings n name arguments
     (λ words givens. Settles words (passing_part table (variables_of spellings table parameters) givens) passed_views
     c.from_residual.result)
-    (stop_settles argued many first arguments.items.more (name_at n name) closing spellings table parameters c.in_err-last.field-0.0 c.from_residual.result
+    (stop_settles argued many first arguments.items.more (name_at n name) closing spellings table parameters
+    c.in_err-last.field-0.0 c.from_residual.result
     (err_from_is_err_and _ c.from_residual.ensures.1)
-    (first_stops argued many first arguments.items.more (name_at n name) closing spellings table parameters (option_copied c.get.result) c.in_err-last.field-0.0 c.get.ensures.value
+    (first_stops argued many first arguments.items.more (name_at n name) closing spellings table parameters
+    (option_copied c.get.result) c.in_err-last.field-0.0 c.get.ensures.value
     (c.in_err-last.ensures clear (n + 1))))
 
 pub loop-index-init : goal.loop-index-init
@@ -51,7 +53,8 @@ loop-index-init c clear n name =
     let many = behind_argued scopes spellings (n + 1) in
     let first = first_actual scopes spellings n name arguments in
     let closing = at (n + 1) k.RightParenthesis arguments.closed in
-    subst (λ (passed : List code_passed.Passed). SoFar argued many first arguments.items.more (name_at n name) closing spellings table parameters [] passed c.in_ok-last.last) (sym c.new-passed.ensures)
+    subst (λ (passed : List code_passed.Passed). SoFar argued many first arguments.items.more (name_at n name) closing
+    spellings table parameters [] passed c.in_ok-last.last) (sym c.new-passed.ensures)
     (begun argued many first arguments.items.more (name_at n name) closing spellings table parameters
     (option_copied c.get.result) c.in_ok-last.last c.get.ensures.value (c.in_ok-last.ensures clear (n + 1)))
 
@@ -72,7 +75,8 @@ returns-in_err-before c clear n name =
     as_actuals scopes spellings n name arguments
     (λ words givens. Settles words (passing_part table (variables_of spellings table parameters) givens) passed_views
     c.from_residual-in_err-before.result)
-    (stop_settles argued many first arguments.items.more (name_at n name) closing spellings table parameters c.in_err-before.field-0.0 c.from_residual-in_err-before.result
+    (stop_settles argued many first arguments.items.more (name_at n name) closing spellings table parameters
+    c.in_err-before.field-0.0 c.from_residual-in_err-before.result
     (err_from_is_err_and _ c.from_residual-in_err-before.ensures.1)
     (more_unsettled argued many first arguments.items.more (name_at n name) closing spellings table parameters
     (take i items) c.loop-index.passed c.loop-index.last so_far c.more-item.result (drop (suc i) items)
@@ -97,7 +101,8 @@ returns-in_err-last-2 c clear n name =
     as_actuals scopes spellings n name arguments
     (λ words givens. Settles words (passing_part table (variables_of spellings table parameters) givens) passed_views
     c.from_residual-in_err-last-2.result)
-    (stop_settles argued many first arguments.items.more (name_at n name) closing spellings table parameters c.in_err-last-2.field-0.0 c.from_residual-in_err-last-2.result
+    (stop_settles argued many first arguments.items.more (name_at n name) closing spellings table parameters
+    c.in_err-last-2.field-0.0 c.from_residual-in_err-last-2.result
     (err_from_is_err_and _ c.from_residual-in_err-last-2.ensures.1)
     (more_stops argued many first arguments.items.more (name_at n name) closing spellings table parameters
     (take i items) c.loop-index.passed c.loop-index.last so_far c.more-item.result c.in_ok-before.field-0
@@ -122,9 +127,11 @@ loop-index-preserved c clear n name =
     let items = c.as_slice-more-items.result.now in
     let i = c.loop-index.index in
     let so_far = c.loop-index.invariant clear n name in
-    subst (λ (done : List (CodeBehind CodeArgument)). SoFar argued many first arguments.items.more (name_at n name) closing spellings table parameters done c.push.new.self c.in_ok-last-2.last)
+    subst (λ (done : List (CodeBehind CodeArgument)). SoFar argued many first arguments.items.more (name_at n name)
+    closing spellings table parameters done c.push.new.self c.in_ok-last-2.last)
     (sym (taken_more items i c.more-item.result c.loop-index-test.true c.more-item.is))
-    (subst (λ (passed : List code_passed.Passed). SoFar argued many first arguments.items.more (name_at n name) closing spellings table parameters (take i items ++ c.more-item.result ∷ []) passed
+    (subst (λ (passed : List code_passed.Passed). SoFar argued many first arguments.items.more (name_at n name)
+    closing spellings table parameters (take i items ++ c.more-item.result ∷ []) passed
     c.in_ok-last-2.last) (sym c.in_ok-push.ensures.ok)
     (one_more argued many first arguments.items.more (name_at n name) closing spellings table parameters
     (take i items) c.loop-index.passed c.loop-index.last so_far c.more-item.result c.in_ok-before.field-0
@@ -153,11 +160,13 @@ returns-in_err-before-2 c clear n name =
     as_actuals scopes spellings n name arguments
     (λ words givens. Settles words (passing_part table (variables_of spellings table parameters) givens) passed_views
     c.from_residual-in_err-before-2.result)
-    (fail_settles argued many first arguments.items.more (name_at n name) closing spellings table parameters c.in_err-before-2.field-0.0 c.from_residual-in_err-before-2.result
+    (fail_settles argued many first arguments.items.more (name_at n name) closing spellings table parameters
+    c.in_err-before-2.field-0.0 c.from_residual-in_err-before-2.result
     (err_from_is_err_and _ c.from_residual-in_err-before-2.ensures.1) short.1
     (closing_short argued many first arguments.items.more (name_at n name) closing spellings table parameters
     c.loop-index.passed (c.loop-index.passed ++ c.loop-index.last.value ∷ []) c.loop-index.last
-    (subst (λ (done : List (CodeBehind CodeArgument)). SoFar argued many first arguments.items.more (name_at n name) closing
+    (subst (λ (done : List (CodeBehind CodeArgument)). SoFar argued many first arguments.items.more (name_at n name)
+    closing
     spellings table parameters done c.loop-index.passed c.loop-index.last)
     (taken_all items i c.loop-index-test.false ∙ c.as_slice-more-items.ensures) so_far) refl short.0))
 
@@ -181,11 +190,13 @@ returns-in_err-demand c clear n name =
     as_actuals scopes spellings n name arguments
     (λ words givens. Settles words (passing_part table (variables_of spellings table parameters) givens) passed_views
     c.from_residual-in_err-demand.result)
-    (stop_settles argued many first arguments.items.more (name_at n name) closing spellings table parameters c.in_err-demand.field-0.0 c.from_residual-in_err-demand.result
+    (stop_settles argued many first arguments.items.more (name_at n name) closing spellings table parameters
+    c.in_err-demand.field-0.0 c.from_residual-in_err-demand.result
     (err_from_is_err_and _ c.from_residual-in_err-demand.ensures.1)
     (too_few_stop argued many first arguments.items.more (name_at n name) closing spellings table parameters
     c.loop-index.passed c.push-2.new.self c.loop-index.last
-    (subst (λ (done : List (CodeBehind CodeArgument)). SoFar argued many first arguments.items.more (name_at n name) closing
+    (subst (λ (done : List (CodeBehind CodeArgument)). SoFar argued many first arguments.items.more (name_at n name)
+    closing
     spellings table parameters done c.loop-index.passed c.loop-index.last)
     (taken_all items i c.loop-index-test.false ∙ c.as_slice-more-items.ensures) so_far)
     (c.in_ok-push-2.ensures.ok ∙ ap (λ found. c.loop-index.passed ++ found ∷ []) whole.0) c.in_err-demand.field-0.0
@@ -215,7 +226,8 @@ returns c clear n name =
     (passed_views c.push-2.new.self))
     (closing_means argued many first arguments.items.more (name_at n name) closing spellings table parameters
     c.loop-index.passed c.push-2.new.self c.loop-index.last
-    (subst (λ (done : List (CodeBehind CodeArgument)). SoFar argued many first arguments.items.more (name_at n name) closing
+    (subst (λ (done : List (CodeBehind CodeArgument)). SoFar argued many first arguments.items.more (name_at n name)
+    closing
     spellings table parameters done c.loop-index.passed c.loop-index.last)
     (taken_all items i c.loop-index-test.false ∙ c.as_slice-more-items.ensures) so_far)
     (c.in_ok-push-2.ensures.ok ∙ ap (λ found. c.loop-index.passed ++ found ∷ []) whole.0) whole.1

@@ -14,7 +14,8 @@ use Rattle.pas_types.specs.inner.Answers.{Means, ShowsBy, Settles}
 use Rattle.pas_types.specs.inner.Arguments.{passing_part}
 use Rattle.pas_types.proofs.SettleLemmas.{settles_stop}
 use Rattle.pas_types.proofs.ActualLemmas.{statement_words, actual_givens}
-use Rattle.pas_types.proofs.ProcedureCalls.{called_procedure, called_function, called_part, refused_statement, made_means}
+use Rattle.pas_types.proofs.ProcedureCalls.{called_procedure, called_function, called_part, refused_statement}
+use Rattle.pas_types.proofs.ProcedureCalls.{made_means}
 use Rattle.pas_types.proofs.calls.routine_with.Goals as goal
 
 pub returns-in_err-passed-in-None-result : goal.returns-in_err-passed-in-None-result

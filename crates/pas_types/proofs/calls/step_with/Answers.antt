@@ -69,7 +69,8 @@ returns-in_err-file-2 c clear n name =
     let expr = expr_in spellings arguments.items.first.value in
     let view = statement_view spellings in
     let why = c.in_err-file-2.field-0.0 in
-    settles_stop words (step_part table (file_step_view c.args.step) givens) view why c.from_residual-in_err-file-2.result
+    settles_stop words (step_part table (file_step_view c.args.step) givens) view why
+    c.from_residual-in_err-file-2.result
     (err_from_is_err_and _ c.from_residual-in_err-file-2.ensures.1)
     (c.in_err-file-2.ensures n name demand (λ (place : code_place.Place). typed.read (place_view place))
     (c.in_ok-file.ensures (expr_words (n + 1) 0 expr) (value_of scopes expr)

@@ -25,7 +25,8 @@ returns-in-Variable c lead deep =
     subst (λ (factor : Factor). ShowsFirst (factor_words lead deep factor) (factor_of scopes factor).marks.tokens
     c.first_of_name.result)
     (sym (ap (factor_in spellings) c.in-Variable.is ∙ variable_view spellings c.in-Variable.variable))
-    (subst (λ (why : Stop). ShowsFirst (variable_words lead deep found) (factor_of scopes (tree.variable found)).marks.tokens why)
+    (subst (λ (why : Stop). ShowsFirst (variable_words lead deep found) (factor_of scopes (tree.variable
+    found)).marks.tokens why)
     (ap (name_shows scopes) (name_seen spellings c.in-Variable.variable) ∙ is)
     (variable_first scopes lead deep found))
 

@@ -9,6 +9,7 @@ use Rattle.pas_types.proofs.functions.function_alone.Goals as goal
 
 pub returns-in-Some : goal.returns-in-Some
 returns-in-Some c n =
-    subst (λ (heading : Option Heading). Answers (name_at n (ident_in c.args.scopes.now.spellings.now c.args.ident) ∷ [])
+    subst (λ (heading : Option Heading). Answers (name_at n (ident_in c.args.scopes.now.spellings.now c.args.ident) ∷
+    [])
     (function_alone c.args.number heading) value_view c.heading_alone.result) c.in-Some.ensures
     (c.heading_alone.ensures n)

@@ -15,6 +15,7 @@ returns-in_err-stands c words part h =
     let why = c.in_err-stands.field-0.0 in
     stands_stop words (taken_as taker part) passed_view why c.from_residual.result
     (err_from_is_err_and _ c.from_residual.ensures.1)
-    (fit_fails words taker part (value_view c.args.found.value) (end_in c.args.found.end) (end_in c.noted-found.result.end)
+    (fit_fails words taker part (value_view c.args.found.value) (end_in c.args.found.end) (end_in
+    c.noted-found.result.end)
     c.fits_parameter-is_fit.result WRONG_TYPE c.fits_parameter-is_fit.ensures c.noted-found.ensures.end h why
     c.in_err-stands.ensures)
