@@ -105,7 +105,8 @@ module _ {A B T U : Type 0} (most : ℕ) (kinds middle later : Kinds) (Is : T �
   }
 
 -- what takes nothing of the machine: a value, and an answer
-pub does_pure : {A T : Type 0} (most : ℕ) (kinds : Kinds) (Is : T → A → Type 0) (found : T) (value : A) (machine : MachineState)
+pub does_pure : {A T : Type 0} (most : ℕ) (kinds : Kinds) (Is : T → A → Type 0) (found : T) (value : A)
+    (machine : MachineState)
     → Is found value → Does most kinds kinds Is (pure value) machine machine (Ok found)
 does_pure most kinds Is found value machine is = record {
   each = λ ports run stands within. record { value = value; run = run; same = refl; is = is; stands = stands };

@@ -1,7 +1,8 @@
 -- Steps of the files of a machine as steps of a run.
 use Rattle.std.proofs.Common.{◌≡◌, ℕ, zero, suc, ◌+◌, ◌<◌, ◌≤◌, List, [], ◌∷◌, ◌++◌, length, map, take, drop}
 use Rattle.std.proofs.Common.{slice_index_or, slice_set, arith, refl, sym, ap, ap₂, ◌∙◌, subst, Result, Ok, Err, Option}
-use Rattle.std.proofs.Common.{Bool, true, false, if◌then◌else◌, lt-ltb, le-ltb, subst₂, append_assoc, append-nil, take-append-drop, ◌⊎◌, inl, inr}
+use Rattle.std.proofs.Common.{Bool, true, false, if◌then◌else◌, lt-ltb, le-ltb, subst₂, append_assoc, append-nil}
+use Rattle.std.proofs.Common.{take-append-drop, ◌⊎◌, inl, inr}
 use Rattle.std.proofs.lemmas.List.{map-set, get_or-map, set-set, set-get_or, get_or-set_same, length-set, length-map}
 use Rattle.std.proofs.lemmas.List.Sums.{fold-append}
 use Rattle.wb_ports.specs.PortState.{PortState}
@@ -12,7 +13,8 @@ use Rattle.pas_meaning.specs.Files as files
 use Rattle.pas_meaning.specs.Files.{File}
 use Rattle.pas_meaning.specs.Outcome.{Output, World, Run, Outcome, gives, errs, Doing, Worldly, passes, fails, led, ask}
 use Rattle.pas_meaning.specs.Outcome.{answered, replay, emptied}
-use Rattle.pas_meaning.specs.FileSteps.{no_file, file_at, file_named, with_file, left, change_file, append, appended, with_byte}
+use Rattle.pas_meaning.specs.FileSteps.{no_file, file_at, file_named, with_file, left, change_file, append, appended}
+use Rattle.pas_meaning.specs.FileSteps.{with_byte}
 use Rattle.pas_meaning.specs.FileSteps.{with_bytes, rewrite, emptied_file, put, put_byte, without_buffer}
 use Rattle.pas_meaning.specs.Store.{Store}
 use Rattle.pas_meaning.specs.Standing.{Kinds}
@@ -112,7 +114,8 @@ still ports machine world number own now at shows = record {
   from = as_it_was;
   until = as_it_was;
   shown = λ given was. subst (AreShown (slice_set machine.files number now))
-      (ap (slice_set (bytes_in world) number) (sym (get_or-map (λ (file : File). file.bytes) world.files number no_file []
+      (ap (slice_set (bytes_in world) number) (sym (get_or-map (λ (file : File). file.bytes) world.files number
+      no_file []
       at.there))
       ∙ same_files (bytes_in world) number []
       ∙ sym was)
@@ -145,7 +148,8 @@ module _ (most : ℕ) (kinds : Kinds) (before : MachineState) (number : ℕ) (de
       before (with_kept number now before) (stopped result)
   does_asked question seen (Ok value) asks = record {
     each = λ ports run stands within.
-        let is = asks.each (there_in ports run stands).bound (file_at number run.world) (there_in ports run stands).is in
+        let is = asks.each (there_in ports run stands).bound (file_at number run.world) (there_in ports run
+        stands).is in
         record {
           value = seen value;
           run = run;
@@ -156,16 +160,21 @@ module _ (most : ℕ) (kinds : Kinds) (before : MachineState) (number : ℕ) (de
   }
   does_asked question seen (Err (Wrong kind)) asks = record {
     each = λ ports run stands within.
-        let is = asks.each (there_in ports run stands).bound (file_at number run.world) (there_in ports run stands).is in
-        (run.world, record {
-          same = ap (λ answer. answered answer run) is.0;
-          stands = (as_before ports run stands is.1).world;
-        });
+        let is = asks.each (there_in ports run stands).bound (file_at number run.world) (there_in ports run
+        stands).is in (
+          run.world,
+          record {
+            same = ap (λ answer. answered answer run) is.0;
+            stands = (as_before ports run stands is.1).world;
+          },
+        );
   }
   does_asked question seen (Err Failed) asks = record {
     each = λ ports run stands within.
-        let is = asks.each (there_in ports run stands).bound (file_at number run.world) (there_in ports run stands).is in
-        subst (IsMoment (slice_set before.files number now) run.world) (asked_world (question (file_at number run.world))
+        let is = asks.each (there_in ports run stands).bound (file_at number run.world) (there_in ports run
+        stands).is in
+        subst (IsMoment (slice_set before.files number now) run.world) (asked_world (question (file_at number
+        run.world))
         run) (still ports before run.world number own_file now (there_in ports run stands) is);
   }
     where
@@ -199,11 +208,13 @@ module _ (most : ℕ) (kinds : Kinds) (before : MachineState) (number : ℕ) (de
   does_made step (Err (Wrong kind)) makes = record {
     each = λ ports run stands within.
         let is = makes.each (there_in ports run stands).bound (file_at number run.world)
-        (there_in ports run stands).is in
-        (run.world, record {
-          same = ap (λ answer. led run.store run.world (left number run.world answer)) is.0;
-          stands = (as_before ports run stands is.1).world;
-        });
+        (there_in ports run stands).is in (
+          run.world,
+          record {
+            same = ap (λ answer. led run.store run.world (left number run.world answer)) is.0;
+            stands = (as_before ports run stands is.1).world;
+          },
+        );
   }
   does_made step (Err Failed) makes = record {
     each = λ ports run stands within.
@@ -316,11 +327,13 @@ module _ (most : ℕ) (kinds : Kinds) (before : MachineState) (number : ℕ) (de
   does_appended bytes (Err (Wrong kind)) appends = record {
     each = λ ports run stands within.
         let at = its_place ports run stands in
-        let is = appends.each at.bound (file_at number run.world) at.is in
-        (run.world, record {
-          same = ap (λ answer. led run.store run.world (appended number run.world answer)) is.0;
-          stands = (as_before most kinds before number default now less ports run stands is.1).world;
-        });
+        let is = appends.each at.bound (file_at number run.world) at.is in (
+          run.world,
+          record {
+            same = ap (λ answer. led run.store run.world (appended number run.world answer)) is.0;
+            stands = (as_before most kinds before number default now less ports run stands is.1).world;
+          },
+        );
   }
   does_appended bytes (Err Failed) appends = record {
     each = λ ports run stands within.
@@ -358,7 +371,8 @@ module _ (most : ℕ) (kinds : Kinds) (before : MachineState) (number : ℕ) (de
         emptied_or ports run at (rewrites.each at.bound (file_at number run.world) at.is);
   }
     where
-      emptied_or : (ports : List PortState) (run : Run Store) → FileAt ports before.files run.world.files number its_file
+      emptied_or : (ports : List PortState) (run : Run Store)
+          → FileAt ports before.files run.world.files number its_file
           → Shows (file_at number run.world).bytes now.told ⊎ Shows [] now.told
           → IsMoment (slice_set before.files number now) run.world (emptied_file number run.world)
       emptied_or ports run at (inl shows) =
@@ -407,11 +421,13 @@ module _ (most : ℕ) (kinds : Kinds) (before : MachineState) (number : ℕ) (de
   does_put (Err (Wrong kind)) puts = record {
     each = λ ports run stands within.
         let at = its_place ports run stands in
-        let is = puts.each at.bound (file_at number run.world) at.is in
-        (run.world, record {
-          same = ap (λ answer. led run.store run.world (put_byte number run.world answer)) is.0;
-          stands = (as_before most kinds before number default now less ports run stands is.1).world;
-        });
+        let is = puts.each at.bound (file_at number run.world) at.is in (
+          run.world,
+          record {
+            same = ap (λ answer. led run.store run.world (put_byte number run.world answer)) is.0;
+            stands = (as_before most kinds before number default now less ports run stands is.1).world;
+          },
+        );
   }
   does_put (Err Failed) puts = record {
     each = λ ports run stands within.

@@ -127,7 +127,8 @@ module _ (kinds : Kinds) (store : Store) (reference : Reference) (shape : Shape)
   variable_there : VariableStands kinds its_row reference.variable
       (cells_before (slice_index_or kinds reference.activation []) reference.variable)
   variable_there =
-      variable_stands kinds reference.activation (slice_index_or kinds reference.activation []) its_row reference.variable
+      variable_stands kinds reference.activation (slice_index_or kinds reference.activation []) its_row
+      reference.variable
       (plain aims.root) (row_matches kinds store reference.activation stands) aims.there
 
   part_there : StandsAt (held_by its_cell) reference.path (offset aims.root reference.path)
@@ -180,7 +181,8 @@ module _ (kinds : Kinds) (store : Store) (reference : Reference) (shape : Shape)
   pub address_there : address.activation < length (flat_store kinds store)
   address_there = omega (arith, length-map store (flat_row kinds), row_there)
 
-  pub address_within : address.offset + size shape ≤ length (slice_index_or (flat_store kinds store) address.activation [])
+  pub address_within : address.offset + size shape
+      ≤ length (slice_index_or (flat_store kinds store) address.activation [])
   address_within =
       omega (
         arith,

@@ -1,10 +1,12 @@
 -- Steps of a run that a machine makes by itself.
-use Rattle.std.proofs.Common.{◌≡◌, ℕ, zero, suc, ◌+◌, ◌-◌, ◌<◌, ◌≤◌, arith, refl, sym, ap, ◌∙◌, subst, Ok, Some, leb-true}
+use Rattle.std.proofs.Common.{◌≡◌, ℕ, zero, suc, ◌+◌, ◌-◌, ◌<◌, ◌≤◌, arith, refl, sym, ap, ◌∙◌, subst, Ok, Some}
+use Rattle.std.proofs.Common.{leb-true}
 use Rattle.std.proofs.Common.{List, [], length, map, slice_index_or, slice_set, Vec}
 use Rattle.std.specs.Vec.{with_item}
 use Rattle.std.proofs.lemmas.List.{map-set, get_or-map}
 use Rattle.std.specs.Prelude.{nat_le, Bool, true, false, if◌then◌else◌}
-use Rattle.pas_meaning.specs.Outcome.{World, Run, gives, passes, stops, too_deep, led, stepped, take_step, begin_call, is_full}
+use Rattle.pas_meaning.specs.Outcome.{World, Run, gives, passes, stops, too_deep, led, stepped, take_step, begin_call}
+use Rattle.pas_meaning.specs.Outcome.{is_full}
 use Rattle.pas_meaning.specs.Store.{Store}
 use Rattle.pas_meaning.specs.Standing.{Kinds}
 use Rattle.pas_run.specs.declared.cells.Address.{Address}
@@ -29,7 +31,8 @@ step_from : (left steps : ℕ) (store : Store) (world : World) → left ≡ suc 
 step_from left steps store world is = ap (λ left. led store world (stepped left world)) is
 
 step_before : (most : ℕ) (kinds : Kinds) (before : MachineState) → 0 < before.steps
-    → Does most kinds kinds Any (take_step {S = Store}) before (record before { steps = before.steps - 1 }) (Ok (tt {0}))
+    → Does most kinds kinds Any (take_step {S = Store}) before (record before { steps = before.steps - 1 })
+    (Ok (tt {0}))
 step_before most kinds before some = record {
   each = λ ports run stands within. record {
     value = tt {0};
@@ -61,7 +64,8 @@ not_full limit calls true is less = absurd (omega (arith, leb-true limit calls i
 not_full limit calls false is less = refl
 
 call_before : (most : ℕ) (kinds : Kinds) (before : MachineState) (limit : ℕ) → before.calls < limit
-    → Does most kinds kinds Any (begin_call {S = Store} (Some limit)) before (record before { calls = before.calls + 1 })
+    → Does most kinds kinds Any (begin_call {S = Store} (Some limit)) before
+    (record before { calls = before.calls + 1 })
     (Ok (tt {0}))
 call_before most kinds before limit some = record {
   each = λ ports run stands within. record {

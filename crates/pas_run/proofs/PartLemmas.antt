@@ -20,7 +20,8 @@ use Rattle.pas_meaning.proofs.PlaceKeeps.{slot_aims}
 use Rattle.pas_run.specs.declared.cells.Address.{Address}
 use Rattle.pas_run.specs.declared.layouts.Layout.{Layout}
 use Rattle.pas_run.specs.declared.layouts.Layouts.{Layouts}
-use Rattle.pas_run.specs.inner.FlatStore.{cells_before, root_of, address_of, number_cell, flat_store, cell_in, with_cell}
+use Rattle.pas_run.specs.inner.FlatStore.{cells_before, root_of, address_of, number_cell, flat_store, cell_in}
+use Rattle.pas_run.specs.inner.FlatStore.{with_cell}
 use Rattle.pas_run.specs.inner.FlatStore.{behind_by}
 use Rattle.pas_run.specs.inner.MachineState.{MachineState, IsRun}
 use Rattle.pas_run.specs.inner.Scenes.{IsAt, IsCell}
@@ -102,8 +103,8 @@ does_store program layouts locals variables result kinds at machine now slot is 
         same = refl;
         is = tt;
         stands = subst (λ machine. IsRun kinds ports machine (record run {
-              store = stored_at slot path datum run.store;
-            }))
+          store = stored_at slot path datum run.store;
+        }))
             (sym (same ∙ ap₂ (λ behind home. record machine {
               activations = with_cell (behind_by behind home) (number_cell (number_in datum)) machine.activations;
             }) leads.begins (found ports run stands)))

@@ -1,5 +1,6 @@
 -- Places with their checked indexes: reading and storing as steps of a run.
-use Rattle.std.proofs.Common.{◌≡◌, ℕ, List, Option, Some, None, ℤ, pos, refl, sym, ap, ◌∙◌, subst, Result, Ok, Err, IsSome}
+use Rattle.std.proofs.Common.{◌≡◌, ℕ, List, Option, Some, None, ℤ, pos, refl, sym, ap, ◌∙◌, subst, Result, Ok, Err}
+use Rattle.std.proofs.Common.{IsSome}
 use Rattle.std.specs.Prelude.{⊤}
 use Rattle.wb_ports.specs.PortState.{PortState}
 use Rattle.pas_typed.specs.Types.{Range, PasType, Table, range_of}
@@ -83,7 +84,8 @@ module _ (table : Table) (type of_component : PasType) (slot : Slot) (most : ℕ
       → Does most kinds kinds Is (ask (file_of slot) >>= (λ number. asks number files.buffer_read)) before now result
       → Does most kinds kinds Is (ask (of_file slot files.buffer_read)) before now result
   as_byte Is now result does =
-      does_asked_then most kinds kinds Is (file_of slot) (λ number store world. files.buffer_read (file_at number world))
+      does_asked_then most kinds kinds Is (file_of slot) (λ number store world. files.buffer_read (file_at number
+      world))
       before now result does
 
   byte_stop : (now : MachineState) (why : Stop)
@@ -111,7 +113,8 @@ module _ (table : Table) (type of_component : PasType) (slot : Slot) (most : ℕ
       as_byte Same now result
       (does_next most kinds kinds kinds Same Same (ask (file_of slot)) (λ number. asks number files.buffer_read) before
       before now file result (goes_ask _) found
-      (λ number same. subst (λ number. Does most kinds kinds Same (asks number files.buffer_read) before now result) same
+      (λ number same. subst (λ number. Does most kinds kinds Same (asks number files.buffer_read) before now result)
+      same
       does))
 
   pub does_window_no_byte : (now : MachineState) (file : ℕ) (why : Stop)

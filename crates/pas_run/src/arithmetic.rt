@@ -9,9 +9,7 @@ ghost use Rattle.pas_meaning.specs.Operands as operands;
 ghost use Rattle.pas_run.specs.inner.Doings.{Answers, Same, is_port_failed};
 
 use crate::ends::Stop;
-use pas_meaning::{
-    CHR_OUT_OF_RANGE, DIVISION_BY_ZERO, MOD_BELOW_1, OUT_OF_RANGE, PAST_MAXINT,
-};
+use pas_meaning::{CHR_OUT_OF_RANGE, DIVISION_BY_ZERO, MOD_BELOW_1, OUT_OF_RANGE, PAST_MAXINT};
 use pas_syntax::{Adding, Multiplying, Relation, Sign};
 use pas_tokens::GREATEST_NUMBER;
 use pas_typed::typed::Function;

@@ -116,8 +116,8 @@ impl<P: Port> Machine<P> {
 
     // Begins a call, unless as many are active as may be.
     pub(crate) fn begin_call(&mut self) -> Result<(), Stop>
-        ensures does { (most : ℕ) (kinds : Kinds) → Does most kinds kinds Any (run.begin_call (Some CALL_LIMIT)) self.old self.new
-            result }
+        ensures does { (most : ℕ) (kinds : Kinds) → Does most kinds kinds Any (run.begin_call (Some CALL_LIMIT))
+            self.old self.new result }
         ensures files { self.new.files ≡ self.old.files }
         ensures steps { self.new.steps ≡ self.old.steps }
         ensures cells { self.new.activations ≡ self.old.activations }
@@ -243,7 +243,8 @@ impl<P: Port> Machine<P> {
     pub(crate) fn write_number(&mut self, file: usize, number: i32, width: i32) -> Result<(), Stop>
         requires { file < length self.old.files }
         ensures does { (most : ℕ) (kinds : Kinds) → Does most kinds kinds Any
-            (steps.append file (files.written (λ field. files.number_in_field field number) width)) self.old self.new result }
+            (steps.append file (files.written (λ field. files.number_in_field field number) width))
+            self.old self.new result }
         ensures cause { CountFailures (is_port_failed result) self.old.files self.new.files }
         ensures same { self.new ≡ record self.old { files = self.new.files } }
     {
@@ -254,7 +255,8 @@ impl<P: Port> Machine<P> {
     pub(crate) fn write_char(&mut self, file: usize, byte: u8, width: i32) -> Result<(), Stop>
         requires { file < length self.old.files }
         ensures does { (most : ℕ) (kinds : Kinds) → Does most kinds kinds Any
-            (steps.append file (files.written (λ field. files.char_in_field field byte) width)) self.old self.new result }
+            (steps.append file (files.written (λ field. files.char_in_field field byte) width))
+            self.old self.new result }
         ensures cause { CountFailures (is_port_failed result) self.old.files self.new.files }
         ensures same { self.new ≡ record self.old { files = self.new.files } }
     {
@@ -265,7 +267,8 @@ impl<P: Port> Machine<P> {
     pub(crate) fn write_text(&mut self, file: usize, bytes: &[u8], width: i32) -> Result<(), Stop>
         requires { file < length self.old.files }
         ensures does { (most : ℕ) (kinds : Kinds) → Does most kinds kinds Any
-            (steps.append file (files.written (λ field. files.string_in_field field bytes.now) width)) self.old self.new result }
+            (steps.append file (files.written (λ field. files.string_in_field field bytes.now) width))
+            self.old self.new result }
         ensures cause { CountFailures (is_port_failed result) self.old.files self.new.files }
         ensures same { self.new ≡ record self.old { files = self.new.files } }
     {

@@ -81,13 +81,20 @@ impl<P: Port> Machine<P> {
     }
 
     // The cell of a variable behind so many of its cells gets a number, or nothing that is defined.
-    pub(crate) fn set_number(&mut self, scene: Scene<'_>, slot: Slot, behind: u32, number: Option<i32>)
+    pub(crate) fn set_number(
+        &mut self,
+        scene: Scene<'_>,
+        slot: Slot,
+        behind: u32,
+        number: Option<i32>,
+    )
         ensures does { (variables : List typed.Variable) (result' : Option types.PasType) (kinds : Kinds)
             → IsScene scene.entry variables result' kinds
             → IsLawfulSlot (program_view scene.entry.program.now) variables (slot_view slot)
             → (path : List ℕ) → IsCell (program_view scene.entry.program.now) (slot_view slot) path behind
             → (most : ℕ) (datum : store.Datum) → IsShaped one_cell datum → store.number_in datum ≡ number
-            → Does most kinds kinds Any (change (stored_at (slot_view slot) path datum)) self.old self.new (Ok (tt {0})) }
+            → Does most kinds kinds Any (change (stored_at (slot_view slot) path datum)) self.old self.new (Ok (tt
+            {0})) }
         ensures files { self.new.files ≡ self.old.files }
     {
         let home = self.home_of(scene, slot);

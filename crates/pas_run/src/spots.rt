@@ -79,15 +79,11 @@ impl<P: Port> Machine<P> {
     }
 
     // The number that the buffer of a file holds.
-    fn read_window(
-        &mut self,
-        scene: Scene<'_>,
-        slot: Slot,
-        component: PasType,
-    ) -> Result<i32, Stop>
+    fn read_window(&mut self, scene: Scene<'_>, slot: Slot, component: PasType) -> Result<i32, Stop>
         ensures does { (variables : List typed.Variable) (result' : Option types.PasType) (kinds : Kinds)
             → IsScene scene.entry variables result' kinds
-            → IsFileSlot (program_view scene.entry.program.now) variables (slot_view slot) → (type : types.PasType) (most : ℕ)
+            → IsFileSlot (program_view scene.entry.program.now) variables (slot_view slot)
+            → (type : types.PasType) (most : ℕ)
             → Does most kinds kinds IsNumber (ask (meaning.read_at (program_view scene.entry.program.now).types type
             (meaning.window (slot_view slot) (type_view component)))) self.old self.new result }
         ensures cause { CountFailures (is_port_failed result) self.old.files self.new.files }

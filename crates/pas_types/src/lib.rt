@@ -3,9 +3,9 @@
 
 mod calls;
 mod constants;
+mod declarations;
 mod expressions;
 mod functions;
-mod declarations;
 mod judged;
 mod labels;
 mod limits;

@@ -91,7 +91,8 @@ pub record IsFileSlot (program : TypedProgram) (variables : List Variable) (slot
   pub slot_is : IsLawfulSlot program variables slot
   pub file : IsFile program.types slot.type
 
--- a place of an ordinal type with its checked indexes, as the code has it: a cell of a variable, or the buffer of a file
+-- a place of an ordinal type with its checked indexes, as the code has it: a cell of a variable, or the buffer
+-- of a file
 abbrev pub IsSpot : (program : TypedProgram) → List Variable → PasType → CodeSpot → Spot → Type 0
 IsSpot program variables type (code.Part found behind) (part slot path) =
     (slot_view found ≡ slot) × IsLawfulSlot program variables slot × IsOrdinal program.types type

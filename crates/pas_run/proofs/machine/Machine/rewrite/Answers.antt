@@ -13,4 +13,5 @@ pub returns-clause-cause : goal.returns-clause-cause
 returns-clause-cause g c =
     counts_file c.args.file _ _ _ _
     (file_changed _ _ _ c.self.inside.files.items c.args.file c.index_mut.result.now c.rewrite.new.self c.self.view_is
-    refl c.index_mut.ensures.value c.requires) c.rewrite.result c.stopped.result c.stopped.ensures c.rewrite.ensures.cause
+    refl c.index_mut.ensures.value c.requires) c.rewrite.result c.stopped.result c.stopped.ensures
+    c.rewrite.ensures.cause

@@ -14,4 +14,5 @@ pub returns-clause-cause : goal.returns-clause-cause
 returns-clause-cause g c =
     counts_file c.args.file _ _ _ _
     (file_changed _ _ _ c.self.inside.files.items c.args.file c.index_mut.result.now c.writeln.new.self c.self.view_is
-    refl c.index_mut.ensures.value c.requires) c.writeln.result c.stopped.result c.stopped.ensures c.writeln.ensures.cause
+    refl c.index_mut.ensures.value c.requires) c.writeln.result c.stopped.result c.stopped.ensures
+    c.writeln.ensures.cause
