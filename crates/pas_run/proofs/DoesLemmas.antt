@@ -1,12 +1,12 @@
 -- What a machine does, one thing behind another.
-use Rattle.std.proofs.Common.{◌≡◌, ◌≤◌, ℕ, arith, List, refl, sym, ap, ◌∙◌, subst, Result, Ok, Err}
+use Rattle.std.proofs.Common.{◌≡◌, ℕ, arith, List, refl, sym, ap, ◌∙◌, subst, Result, Ok, Err}
 use Rattle.std.proofs.Common.{◌+◌, suc, Bool, true, false, length, slice_index_or}
 use Rattle.std.proofs.lemmas.List.{length-map}
 use Rattle.wb_ports.specs.PortState.{PortState}
 use Rattle.pas_meaning.specs.Answers.{Answer, fine, wrong, then_answer}
-use Rattle.pas_meaning.specs.Outcome.{World, Run, Outcome, gives, ends, errs, Doing, halted, going, too_deep, pure}
+use Rattle.pas_meaning.specs.Outcome.{World, Run, Outcome, gives, ends, errs, Doing, pure}
 use Rattle.pas_meaning.specs.Outcome.{and_then, ◌>>=◌, ◌>>◌, answered, ask, take_step}
-use Rattle.pas_meaning.specs.Store.{Datum, Store}
+use Rattle.pas_meaning.specs.Store.{Store}
 use Rattle.pas_meaning.specs.Standing.{Kinds}
 use Rattle.pas_meaning.specs.Laws.{Extends, Onward, Goes, world_of}
 use Rattle.pas_meaning.proofs.OnwardLemmas.{extends_on, goes_step}

@@ -1,6 +1,6 @@
 -- Steps of the files of a machine as steps of a run.
-use Rattle.std.proofs.Common.{◌≡◌, ℕ, zero, suc, ◌+◌, ◌<◌, ◌≤◌, List, [], ◌∷◌, ◌++◌, length, map, take, drop}
-use Rattle.std.proofs.Common.{slice_index_or, slice_set, arith, refl, sym, ap, ap₂, ◌∙◌, subst, Result, Ok, Err, Option}
+use Rattle.std.proofs.Common.{◌≡◌, ℕ, zero, suc, ◌<◌, ◌≤◌, List, [], ◌∷◌, ◌++◌, length, map, take, drop}
+use Rattle.std.proofs.Common.{slice_index_or, slice_set, arith, refl, sym, ap, ◌∙◌, subst, Result, Ok, Err, Option}
 use Rattle.std.proofs.Common.{Bool, true, false, if◌then◌else◌, lt-ltb, le-ltb, subst₂, append_assoc, append-nil}
 use Rattle.std.proofs.Common.{take-append-drop, ◌⊎◌, inl, inr}
 use Rattle.std.proofs.lemmas.List.{map-set, get_or-map, set-set, set-get_or, get_or-set_same, length-set, length-map}
@@ -11,8 +11,8 @@ use Rattle.pas_meaning.specs.Answers.{Answer, fine, wrong}
 use Rattle.pas_meaning.specs.declared.errors.TheConstants.{WRONG_MODE}
 use Rattle.pas_meaning.specs.Files as files
 use Rattle.pas_meaning.specs.Files.{File}
-use Rattle.pas_meaning.specs.Outcome.{Output, World, Run, Outcome, gives, errs, Doing, Worldly, passes, fails, led, ask}
-use Rattle.pas_meaning.specs.Outcome.{answered, replay, emptied}
+use Rattle.pas_meaning.specs.Outcome.{World, Run, Doing, led, ask}
+use Rattle.pas_meaning.specs.Outcome.{answered}
 use Rattle.pas_meaning.specs.FileSteps.{no_file, file_at, file_named, with_file, left, change_file, append, appended}
 use Rattle.pas_meaning.specs.FileSteps.{with_byte}
 use Rattle.pas_meaning.specs.FileSteps.{with_bytes, rewrite, emptied_file, put, put_byte, without_buffer}
@@ -29,7 +29,7 @@ use Rattle.pas_meaning.proofs.OnwardLemmas.{goes_append, goes_rewrite}
 use Rattle.pas_run.specs.RunFiles as files_spec
 use Rattle.pas_run.specs.inner.MachineState.{KeptFile, MachineState, AreFiles, AreShown, IsWorld, IsRun}
 use Rattle.pas_run.specs.inner.MachineState.{failures_of, CountFailures}
-use Rattle.pas_run.specs.inner.Doings.{stopped, is_port_failed, Any, IsMoment, Done, Does, asks}
+use Rattle.pas_run.specs.inner.Doings.{stopped, is_port_failed, Any, IsMoment, Does, asks}
 use Rattle.pas_run.proofs.DoesLemmas.{moment_on}
 
 -- a file among those of a world, and what it takes that the others stay

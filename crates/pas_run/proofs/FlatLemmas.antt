@@ -1,12 +1,10 @@
 -- Activations in flat cells: what stands at a reference is a slice of them, and storing there changes that slice.
 use Rattle.std.proofs.Common.{◌≡◌, ℕ, zero, suc, ◌+◌, ◌<◌, ◌≤◌, List, [], ◌∷◌, ◌++◌, length, map, take, drop}
-use Rattle.std.proofs.Common.{ℤ, Option, Some, None, slice_get, slice_set, slice_index_or, arith, refl, sym, ap, ap₂}
-use Rattle.std.proofs.Common.{◌∙◌, subst, append_assoc, append-nil, length-append, get_or-set_same}
+use Rattle.std.proofs.Common.{ℤ, Option, Some, slice_get, slice_set, slice_index_or, arith, refl, sym, ap, ap₂}
+use Rattle.std.proofs.Common.{◌∙◌, append_assoc, length-append}
 use Rattle.std.proofs.lemmas.List.{take_at, drop_at, get_or_at, set_at, map-append, length-map, map-set, get_or-map}
 use Rattle.std.proofs.lemmas.List.{take-map, get_or_append_left}
-use Rattle.std.proofs.lemmas.Option.{slice_get_within, same_Some}
-use Rattle.std.specs.Prelude.{⊤}
-use Rattle.pas_typed.specs.Shapes.{Shape, one_cell, size, Leads, offset}
+use Rattle.pas_typed.specs.Shapes.{Shape, one_cell, size, offset}
 use Rattle.pas_meaning.specs.Store as pascal
 use Rattle.pas_meaning.specs.Store.{Datum, undefined, own, refers, Reference, Store, cell_at, held_by, number_in}
 use Rattle.pas_meaning.specs.Store.{part_at, with_part_at, fetched, stored, opened, closed, top_of, followed}

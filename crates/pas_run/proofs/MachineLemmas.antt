@@ -1,12 +1,11 @@
 -- Steps of a run that a machine makes by itself.
-use Rattle.std.proofs.Common.{◌≡◌, ℕ, zero, suc, ◌+◌, ◌-◌, ◌<◌, ◌≤◌, arith, refl, sym, ap, ◌∙◌, subst, Ok, Some}
+use Rattle.std.proofs.Common.{◌≡◌, ℕ, suc, ◌+◌, ◌-◌, ◌<◌, arith, refl, sym, ap, ◌∙◌, subst, Ok, Some}
 use Rattle.std.proofs.Common.{leb-true}
 use Rattle.std.proofs.Common.{List, [], length, map, slice_index_or, slice_set, Vec}
 use Rattle.std.specs.Vec.{with_item}
 use Rattle.std.proofs.lemmas.List.{map-set, get_or-map}
 use Rattle.std.specs.Prelude.{nat_le, Bool, true, false, if◌then◌else◌}
 use Rattle.pas_meaning.specs.Outcome.{World, Run, gives, passes, stops, too_deep, led, stepped, take_step, begin_call}
-use Rattle.pas_meaning.specs.Outcome.{is_full}
 use Rattle.pas_meaning.specs.Store.{Store}
 use Rattle.pas_meaning.specs.Standing.{Kinds}
 use Rattle.pas_run.specs.declared.cells.Address.{Address}

@@ -1,5 +1,5 @@
 -- Parts of variables over a machine: what is read there and what is stored there.
-use Rattle.std.proofs.Common.{◌≡◌, ℕ, ◌+◌, List, [], Option, Some, None, ℤ, arith, refl, sym, ap, ap₂, ◌∙◌, subst}
+use Rattle.std.proofs.Common.{◌≡◌, ℕ, ◌+◌, List, [], Option, ℤ, arith, refl, sym, ap, ap₂, ◌∙◌, subst}
 use Rattle.std.proofs.Common.{slice_index_or, nat_abs, append-nil, Ok, Err, Result}
 use Rattle.wb_ports.specs.PortState.{PortState}
 use Rattle.pas_typed.specs.Types.{PasType}
@@ -11,16 +11,16 @@ use Rattle.pas_meaning.specs.Answers.{Answer, then_answer}
 use Rattle.pas_meaning.specs.Outcome.{World, Run, change}
 use Rattle.pas_meaning.specs.FileSteps.{file_named}
 use Rattle.pas_meaning.specs.Run.{file_of}
-use Rattle.pas_meaning.specs.Store.{Datum, undefined, holds, Reference, Store, home_of, along, fetched, stored}
+use Rattle.pas_meaning.specs.Store.{Datum, Reference, Store, home_of, along, fetched, stored}
 use Rattle.pas_meaning.specs.Store.{number_in, number_at}
 use Rattle.pas_meaning.specs.Cells.{IsShaped}
-use Rattle.pas_meaning.specs.Standing.{Kinds, kind_at, Aims, Stands}
+use Rattle.pas_meaning.specs.Standing.{Kinds, kind_at, Aims}
 use Rattle.pas_meaning.proofs.StandingLemmas.{aims_along, stands_stored}
 use Rattle.pas_meaning.proofs.PlaceKeeps.{slot_aims}
 use Rattle.pas_run.specs.declared.cells.Address.{Address}
 use Rattle.pas_run.specs.declared.layouts.Layout.{Layout}
 use Rattle.pas_run.specs.declared.layouts.Layouts.{Layouts}
-use Rattle.pas_run.specs.inner.FlatStore.{cells_before, root_of, address_of, number_cell, flat_store, cell_in}
+use Rattle.pas_run.specs.inner.FlatStore.{cells_before, root_of, address_of, number_cell, cell_in}
 use Rattle.pas_run.specs.inner.FlatStore.{with_cell}
 use Rattle.pas_run.specs.inner.FlatStore.{behind_by}
 use Rattle.pas_run.specs.inner.MachineState.{MachineState, IsRun}

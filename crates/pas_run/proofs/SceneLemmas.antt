@@ -1,26 +1,25 @@
 -- Where the variables of a scene are.
-use Rattle.std.proofs.Common.{◌≡◌, ℕ, zero, suc, ◌+◌, ◌-◌, ◌<◌, List, [], ◌∷◌, ◌++◌, length, map, Option, Some, None}
-use Rattle.std.proofs.Common.{slice_get, slice_index_or, arith, refl, sym, ap, ap₂, ◌∙◌}
+use Rattle.std.proofs.Common.{◌≡◌, ℕ, zero, suc, ◌+◌, ◌-◌, ◌<◌, List, [], ◌∷◌, ◌++◌, length, map, Option, Some}
+use Rattle.std.proofs.Common.{slice_index_or, arith, refl, sym, ap, ap₂, ◌∙◌}
 use Rattle.std.proofs.lemmas.List.{length-map}
 use Rattle.std.proofs.lemmas.Option.{slice_get_within}
 use Rattle.pas_typed.specs.Types.{PasType}
 use Rattle.pas_typed.specs.Typed as typed
 use Rattle.pas_typed.specs.Typed.{Home, Mode, Variable, Slot, TypedProgram}
 use Rattle.pas_typed.specs.Lawful.{variables_of, IsLawfulSlot, IsDeclared}
-use Rattle.pas_typed.specs.Shapes.{Shape, shape_of, offset}
+use Rattle.pas_typed.specs.Shapes.{Shape, shape_of}
 use Rattle.wb_ports.specs.PortState.{PortState}
 use Rattle.pas_meaning.specs.Outcome.{Run}
 use Rattle.pas_meaning.specs.Store.{Store, cell_at, home_by, home_of, top_of, followed}
-use Rattle.pas_meaning.specs.Standing.{Kind, plain, named, kind_by, kind_of, Kinds, kind_at, Stands}
+use Rattle.pas_meaning.specs.Standing.{Kind, kind_by, kind_of, Kinds, kind_at, Stands}
 use Rattle.pas_meaning.proofs.PlaceKeeps.{all_get}
 use Rattle.pas_run.specs.declared.cells.Address.{Address}
-use Rattle.pas_run.specs.declared.cells.Cell.{Cell}
 use Rattle.pas_run.specs.declared.layouts.Layout.{Layout}
 use Rattle.pas_run.specs.declared.layouts.Layouts.{Layouts}
-use Rattle.pas_run.specs.inner.FlatStore.{cells_for, cells_before, root_of, address_of, flat_row, flat_store}
+use Rattle.pas_run.specs.inner.FlatStore.{cells_for, cells_before, address_of, flat_row, flat_store}
 use Rattle.pas_run.specs.inner.FlatStore.{cell_in, behind_by}
 use Rattle.pas_run.specs.inner.MachineState.{MachineState, IsRun}
-use Rattle.pas_run.specs.inner.Scenes.{IsAt, layout_by, activation_by, own_address, home_in}
+use Rattle.pas_run.specs.inner.Scenes.{IsAt, activation_by, own_address, home_in}
 use Rattle.pas_run.proofs.FlatLemmas as flat
 
 -- others behind a variable change nothing before it

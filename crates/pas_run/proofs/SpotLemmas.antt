@@ -1,7 +1,6 @@
 -- Places with their checked indexes: reading and storing as steps of a run.
-use Rattle.std.proofs.Common.{◌≡◌, ℕ, List, Option, Some, None, ℤ, pos, refl, sym, ap, ◌∙◌, subst, Result, Ok, Err}
+use Rattle.std.proofs.Common.{◌≡◌, ℕ, List, Option, Some, None, ℤ, pos, refl, sym, ap, subst, Result, Ok, Err}
 use Rattle.std.proofs.Common.{IsSome}
-use Rattle.std.specs.Prelude.{⊤}
 use Rattle.wb_ports.specs.PortState.{PortState}
 use Rattle.pas_typed.specs.Types.{Range, PasType, Table, range_of}
 use Rattle.pas_typed.specs.Typed.{Variable, Slot, TypedProgram}
@@ -15,15 +14,14 @@ use Rattle.pas_typed.proofs.ShapeLemmas.{shape_of-ordinal}
 use Rattle.pas_run.specs.declared.spots.Spot.TheVariants as code
 use Rattle.pas_run.specs.inner.Scenes.{IsCell, IsFileSlot, IsSpot}
 use Rattle.pas_meaning.specs.declared.errors.TheConstants.{OUT_OF_RANGE}
-use Rattle.pas_meaning.specs.Answers.{Answer, fine, wrong, then_answer}
+use Rattle.pas_meaning.specs.Answers.{Answer, fine, then_answer}
 use Rattle.pas_meaning.specs.Files as files
-use Rattle.pas_meaning.specs.Outcome.{World, Run, Doing, ask, ◌>>=◌}
+use Rattle.pas_meaning.specs.Outcome.{Run, ask, ◌>>=◌}
 use Rattle.pas_meaning.specs.FileSteps.{file_at}
 use Rattle.pas_meaning.specs.Store.{Datum, holds, Store, home_of, along, fetched, number_of, number_at, in_range}
-use Rattle.pas_meaning.specs.Store.{number_for, fits_by, fits, defined_by, fetched_as}
+use Rattle.pas_meaning.specs.Store.{fits_by, fits, defined_by}
 use Rattle.pas_meaning.specs.Run.{Spot, part, window, file_of, of_file, read_at, component}
 use Rattle.pas_meaning.specs.Standing.{Kinds}
-use Rattle.pas_meaning.specs.Laws.{Goes}
 use Rattle.pas_meaning.proofs.OnwardLemmas.{goes_ask}
 use Rattle.pas_run.specs.declared.ends.Stop.{Stop}
 use Rattle.pas_run.specs.inner.MachineState.{MachineState, IsRun}

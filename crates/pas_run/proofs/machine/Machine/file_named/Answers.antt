@@ -1,4 +1,4 @@
-use Rattle.std.proofs.Common.{arith, ap, sym, ◌∙◌, nat_abs}
+use Rattle.std.proofs.Common.{arith, ap, ◌∙◌, nat_abs}
 use Rattle.std.proofs.Math.Facts.{to_z-of_z}
 use Rattle.pas_run.proofs.FileLemmas.{named_there, named_nowhere}
 use Rattle.pas_run.proofs.machine.Machine.file_named.Goals as goal

@@ -1,4 +1,4 @@
-use Rattle.std.proofs.Common.{◌≡◌, sym, ap, subst, ◌∙◌, arith, take, map, List}
+use Rattle.std.proofs.Common.{sym, ap, subst, ◌∙◌, arith, take, map}
 use Rattle.std.proofs.lemmas.List.{take-map, take_all}
 use Rattle.pas_typed.specs.declared.types.TypeRow.{TypeRow as CodeTypeRow}
 use Rattle.pas_typed.specs.declared.types.Structure.{Structure}
