@@ -7,3 +7,4 @@ pub mod SceneLemmas
 pub mod PartLemmas
 pub mod FileLemmas
 pub mod SpotLemmas
+pub mod StoringLemmas
