@@ -8,3 +8,5 @@ pub mod PartLemmas
 pub mod FileLemmas
 pub mod SpotLemmas
 pub mod StoringLemmas
+pub mod OperandLemmas
+pub mod ValueLemmas

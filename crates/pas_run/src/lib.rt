@@ -11,6 +11,7 @@ mod machine;
 mod places;
 mod refusals;
 mod spots;
+mod values;
 
 pub use files::{Ahead, FileState, RunFile, Usage};
 pub use refusals::Refused;
