@@ -10,3 +10,4 @@ pub mod SpotLemmas
 pub mod StoringLemmas
 pub mod OperandLemmas
 pub mod ValueLemmas
+pub mod TestLemmas

@@ -1,12 +1,14 @@
 //! The values of expressions.
-ghost use Rattle.std.specs.Prelude.{◌≡◌, false, OnErr};
+ghost use Rattle.std.specs.Prelude.{◌≡◌, ◌<◌, ℕ, length, false};
 ghost use Rattle.pas_typed.specs.Typed as typed;
 ghost use Rattle.pas_typed.specs.TypedViews.{file_test_view, function_view, value_view, call_view, place_view};
 ghost use Rattle.pas_meaning.specs.Arithmetic as spec;
 ghost use Rattle.pas_meaning.specs.Answers.{fine};
+ghost use Rattle.pas_meaning.specs.Run as meaning;
+ghost use Rattle.pas_meaning.specs.Standing.{Kinds};
 ghost use Rattle.pas_run.specs.inner.MachineState.{CountFailures};
-ghost use Rattle.pas_run.specs.inner.Doings.{is_port_failed};
-ghost use Rattle.pas_run.specs.inner.Evaluating.{Evaluates, Decides, IsBoolean, Works};
+ghost use Rattle.pas_run.specs.inner.Doings.{Same, Does, Answers, asks, is_port_failed};
+ghost use Rattle.pas_run.specs.inner.Evaluating.{Evaluates, Decides, IsBoolean, Works, IsSlot};
 
 use crate::arithmetic::{
     added, compared, function_at, multiplied, number_of, signed, truth_of, within_maxint,
@@ -15,8 +17,9 @@ use crate::ends::Stop;
 use crate::layouts::Scene;
 use crate::machine::Machine;
 use crate::spots::fits;
+use pas_meaning::WRONG_MODE;
 use pas_syntax::{Adding, Multiplying, Relation, Sign};
-use pas_typed::typed::{Call, FileTest, Function, Place, Value};
+use pas_typed::typed::{Call, FileTest, Function, Place, Slot, Value};
 use pas_typed::types::{Base, PasType};
 use wb_ports::Port;
 
@@ -270,13 +273,29 @@ impl<P: Port> Machine<P> {
         Ok(number_of(compared(relation, first, second)))
     }
 
-    // What a question to a file answers.
+    // What a test of a file answers, as a number.
     fn tested(&mut self, scene: Scene<'_>, test: FileTest, place: &Place) -> Result<i32, Stop>
         ensures does { Evaluates scene.entry (typed.tested (file_test_view test) (place_view place.now)) self.old
             self.new result }
         ensures cause { CountFailures (is_port_failed result) self.old.files self.new.files }
     {
-        Err(Stop::OutOfMemory)
+        let slot = file_variable(place)?;
+        let file = self.file_of(scene, slot)?;
+        let found = self.asked(test, file)?;
+        Ok(number_of(found))
+    }
+
+    // What a test of a file answers.
+    fn asked(&mut self, test: FileTest, file: usize) -> Result<bool, Stop>
+        requires { file < length self.old.files }
+        ensures does { (most : ℕ) (kinds : Kinds) → Does most kinds kinds Same
+            (asks file (meaning.test_of (file_test_view test))) self.old self.new result }
+        ensures cause { CountFailures (is_port_failed result) self.old.files self.new.files }
+    {
+        match test {
+            FileTest::Eof => self.eof(file),
+            FileTest::Eoln => self.eoln(file),
+        }
     }
 
     // What a place of an ordinal type holds.
@@ -293,5 +312,17 @@ impl<P: Port> Machine<P> {
         ensures cause { CountFailures (is_port_failed result) self.old.files self.new.files }
     {
         Err(Stop::OutOfMemory)
+    }
+}
+
+// The variable that a file is, which has no index.
+pub(crate) fn file_variable(place: &Place) -> Result<Slot, Stop>
+    ensures variable { Answers IsSlot (meaning.file_variable (place_view place.now)) result }
+    ensures quiet { is_port_failed result ≡ false }
+{
+    if place.parts.is_empty() {
+        Ok(place.slot)
+    } else {
+        Err(Stop::Wrong(WRONG_MODE))
     }
 }

@@ -2,8 +2,9 @@
 -- lawful. This project's own.
 use Rattle.std.specs.Prelude.{◌≡◌, ℕ, ℤ, List, Bool, Option, Some, Result}
 use Rattle.pas_typed.specs.Types.{PasType, whole, boolean}
-use Rattle.pas_typed.specs.Typed.{Variable, Value, Place, TypedProgram}
-use Rattle.pas_typed.specs.TypedViews.{program_view}
+use Rattle.pas_typed.specs.Typed.{Variable, Slot, Value, Place, TypedProgram}
+use Rattle.pas_typed.specs.TypedViews.{slot_view, program_view}
+use Rattle.pas_typed.specs.declared.typed.Slot.{Slot as CodeSlot}
 use Rattle.pas_typed.specs.Lawful.{IsLawfulNumber, IsLawfulValue}
 use Rattle.pas_meaning.specs.declared.errors.TheConstants.{CALL_LIMIT}
 use Rattle.pas_meaning.specs.Answers.{Answer}
@@ -69,3 +70,7 @@ IsBoolean scene found =
     Finds scene (λ variables. IsLawfulNumber (program_view scene.program.now) variables found) IsNumber
     (λ most. operand (fits (program_view scene.program.now).types (whole boolean))
     (value_of (program_view scene.program.now) most found))
+
+-- the variable that a file is, as the code has it
+abbrev pub IsSlot : CodeSlot → Slot → Type 0
+IsSlot found slot = slot_view found ≡ slot
