@@ -11,3 +11,5 @@ pub mod StoringLemmas
 pub mod OperandLemmas
 pub mod ValueLemmas
 pub mod TestLemmas
+pub mod PlaceLemmas
+pub mod SelectorLemmas

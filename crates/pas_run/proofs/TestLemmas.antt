@@ -1,5 +1,5 @@
 -- Questions to the files that variables are, as steps of a run.
-use Rattle.std.proofs.Common.{◌≡◌, ℕ, ℤ, List, [], ◌∷◌, map, refl, sym, ap, ◌∙◌, subst, Bool, Result, Ok, Err}
+use Rattle.std.proofs.Common.{◌≡◌, ℕ, ℤ, List, [], ◌∷◌, map, length, arith, refl, sym, ap, ◌∙◌, subst, Bool, Result, Ok, Err}
 use Rattle.pas_syntax.specs.Views.{in_turn}
 use Rattle.pas_typed.specs.declared.typed.Place as code_place
 use Rattle.pas_typed.specs.declared.typed.Part as code_part
@@ -7,6 +7,7 @@ use Rattle.pas_typed.specs.declared.typed.Slot.{Slot as CodeSlot}
 use Rattle.pas_typed.specs.declared.typed.Part.TheOpen.{Part-F}
 use Rattle.pas_typed.specs.declared.typed.Part.TheViews.{out-Place}
 use Rattle.pas_typed.specs.declared.typed.Part.TheFolds.{fold_out-Part, fold_out-Place}
+use Rattle.pas_typed.specs.Types.{PasType}
 use Rattle.pas_typed.specs.Typed as typed
 use Rattle.pas_typed.specs.Typed.{Variable, Slot, Value, Place, Passed, TypedProgram}
 use Rattle.pas_typed.specs.TypedViews.{OfValues, slot_view, part_step, passed_step, value_step, call_step, place_step}
@@ -80,6 +81,52 @@ whole_variable place is =
     ap file_variable (sym (place_out place))
     ∙ ap (λ (parts : List code_part.Part). file_variable (in_turn (typed.slot (slot_view (out-Place place).slot))
     (map part_view parts))) is
+
+-- the variable below a buffer
+step_buffer : (layer : OfValues Part-F) (place file : Place) (type : PasType)
+    → part_step layer place ≡ typed.buffer file type → file ≡ place
+step_buffer (Part-F.Element indexes of_element index) place file type is = absurd (cc)
+step_buffer (Part-F.Field number of_field) place file type is = absurd (cc)
+step_buffer (Part-F.Buffer component) place file type is = cc
+
+part_buffer : (part : code_part.Part) (place file : Place) (type : PasType)
+    → part_view part place ≡ typed.buffer file type → file ≡ place
+part_buffer part place file type is =
+    step_buffer _ place file type
+    (sym (ap (λ (step : Place → Place). step place)
+    (fold_out-Part (Place → Place) (Passed → Passed) Value Value Place
+    part_step passed_step value_step call_step place_step part)) ∙ is)
+
+below_more : (file : Place) (type : PasType) (part : code_part.Part) (parts : List code_part.Part) (place : Place)
+    → file_variable place ≡ wrong WRONG_MODE → in_turn place (map part_view (part ∷ parts)) ≡ typed.buffer file type
+    → file_variable file ≡ wrong WRONG_MODE
+below_more file type part [] place is h = ap file_variable (part_buffer part place file type h) ∙ is
+below_more file type part (next ∷ parts) place is h =
+    below_more file type next parts (part_view part place) (part_file part place) h
+
+module _ (place : code_place.Place) (file : Place) (type : PasType)
+    (same : place_view place ≡ typed.buffer file type) where
+  pub below_one : length (out-Place place).parts ≡ 1 → file_variable file ≡ fine (slot_view (out-Place place).slot)
+  below_one one = by_parts (out-Place place).parts one (place_out place ∙ same)
+    where
+      by_parts : (parts : List code_part.Part) → length parts ≡ 1
+          → in_turn (typed.slot (slot_view (out-Place place).slot)) (map part_view parts) ≡ typed.buffer file type
+          → file_variable file ≡ fine (slot_view (out-Place place).slot)
+      by_parts [] one h = absurd (omega (arith, one))
+      by_parts (part ∷ []) one h = ap file_variable (part_buffer part _ file type h)
+      by_parts (part ∷ (next ∷ parts)) one h = absurd (omega (arith, one))
+
+  pub below_others : (length (out-Place place).parts ≡ 1 → ⊥) → file_variable file ≡ wrong WRONG_MODE
+  below_others others = by_parts (out-Place place).parts others (place_out place ∙ same)
+    where
+      by_parts : (parts : List code_part.Part) → (length parts ≡ 1 → ⊥)
+          → in_turn (typed.slot (slot_view (out-Place place).slot)) (map part_view parts) ≡ typed.buffer file type
+          → file_variable file ≡ wrong WRONG_MODE
+      by_parts [] others h = absurd (cc)
+      by_parts (part ∷ []) others h = absurd (others refl)
+      by_parts (part ∷ (next ∷ parts)) others h =
+          below_more file type next parts (part_view part (typed.slot (slot_view (out-Place place).slot)))
+          (part_file part _) h
 
 same_fine : {A : Type 0} (one other : A) → fine one ≡ fine other → one ≡ other
 same_fine one other is = cc

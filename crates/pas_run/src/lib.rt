@@ -10,6 +10,7 @@ mod lines;
 mod machine;
 mod places;
 mod refusals;
+mod selectors;
 mod spots;
 mod values;
 

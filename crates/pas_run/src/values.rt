@@ -299,11 +299,13 @@ impl<P: Port> Machine<P> {
     }
 
     // What a place of an ordinal type holds.
+    #[cycle(running)]
     fn read(&mut self, scene: Scene<'_>, place: &Place, levels: u32) -> Result<i32, Stop>
         ensures does { Evaluates scene.entry (typed.read (place_view place.now)) self.old self.new result }
         ensures cause { CountFailures (is_port_failed result) self.old.files self.new.files }
     {
-        Err(Stop::OutOfMemory)
+        let spot = self.spot_at(scene, place, levels)?;
+        self.read_at(scene, place.pas_type(), spot)
     }
 
     // What the call of a function answers.

@@ -1,4 +1,4 @@
-use Rattle.std.proofs.Common.{rules, ◌≡◌, ℤ, refl, sym, ap, ap₂, ◌∙◌, subst, Bool, true, false, Ok, to_z, of_z, w32, w64}
+use Rattle.std.proofs.Common.{rules, ◌≡◌, ℕ, ◌+◌, ◌*◌, suc, List, map, take, drop, Err, ℤ, refl, sym, ap, ap₂, ◌∙◌, subst, Bool, true, false, Ok, to_z, of_z, w32, w64}
 use Rattle.std.specs.Prelude.{not}
 use Rattle.std.proofs.lemmas.Result.{err_from_is_err_and}
 use Rattle.pas_syntax.specs.declared.operators.Multiplying.{Multiplying}
@@ -8,28 +8,42 @@ use Rattle.pas_syntax.specs.declared.operators.Adding.TheVariants as adding
 use Rattle.pas_typed.specs.declared.typed.Value as code_value
 use Rattle.pas_typed.specs.declared.typed.Place as code_place
 use Rattle.pas_typed.specs.declared.typed.Call as code_call
-use Rattle.pas_typed.specs.Types.{whole, boolean}
+use Rattle.pas_syntax.specs.Views.{in_turn}
+use Rattle.pas_typed.specs.declared.typed.Part as code_part
+use Rattle.pas_typed.specs.declared.typed.Part.TheViews.{out-Place}
+use Rattle.pas_typed.specs.Types.{PasType, whole, boolean, fields_of, cells_of}
+use Rattle.pas_typed.specs.TypeOf.{type_of_place}
+use Rattle.pas_typed.specs.Lawful.{IsLawfulPlace}
 use Rattle.pas_typed.specs.Typed as typed
-use Rattle.pas_typed.specs.Typed.{Value}
+use Rattle.pas_typed.specs.Typed.{Value, Place}
 use Rattle.pas_typed.specs.TypedViews.{function_view, file_test_view, value_view, place_view, call_view}
-use Rattle.pas_typed.specs.TypeViews.{base_view}
-use Rattle.pas_typed.specs.TypedViews.{program_view}
+use Rattle.pas_typed.specs.TypeViews.{base_view, range_view, type_view}
+use Rattle.pas_typed.specs.TypedViews.{slot_view, part_view, program_view}
+use Rattle.pas_typed.proofs.ValueViews.{part_view-Element, part_view-Field}
 use Rattle.pas_typed.proofs.ValueViews.{value_view-Read, value_view-Call, value_view-Applied, value_view-Tested}
 use Rattle.pas_typed.proofs.ValueViews.{value_view-Parenthesized, value_view-Signed, value_view-Negated}
 use Rattle.pas_typed.proofs.ValueViews.{value_view-Product, value_view-Addition, value_view-Comparison}
 use Rattle.pas_typed.proofs.ValueViews.{value_view-Constant}
 use Rattle.pas_meaning.specs.Answers.{fine}
-use Rattle.pas_meaning.specs.Outcome.{pure}
+use Rattle.pas_meaning.specs.Outcome.{pure, ask}
 use Rattle.pas_meaning.specs.Store.{holds, fits}
 use Rattle.pas_meaning.specs.Arithmetic.{within_maxint, truth, signed, multiplied, added, compared, function_at}
-use Rattle.pas_meaning.specs.Operands.{operand, truth_of}
+use Rattle.pas_meaning.specs.Operands.{operand, truth_of, element}
 use Rattle.pas_meaning.specs.Run as meaning
 use Rattle.pas_meaning.proofs.OnwardLemmas.{goes_pure}
 use Rattle.pas_run.specs.inner.Doings.{Same, IsNumber, Does, Answers}
-use Rattle.pas_run.specs.inner.Evaluating.{value_of, twice, Evaluates}
+use Rattle.pas_run.specs.inner.Evaluating.{value_of, place_at, twice, Evaluates, MeansSpot, IsBehind, Selects, IsElement}
+use Rattle.pas_run.specs.declared.spots.Spot.TheVariants as code
+use Rattle.pas_run.specs.inner.MachineState.{CountFailures}
 use Rattle.pas_run.proofs.DoesLemmas.{does_early, does_pure}
 use Rattle.pas_run.proofs.OperandLemmas.{operand_stop, operand_next, once_stop, once_next, twice_stop}
 use Rattle.pas_run.proofs.OperandLemmas.{twice_stop_behind, twice_next, truth_stop, truth_next}
+use Rattle.pas_run.specs.inner.Scenes.{IsSpot}
+use Rattle.pas_run.proofs.PlaceLemmas.{read_stop, read_next, does_field, does_no_index, does_no_element, does_element}
+use Rattle.pas_run.proofs.PlaceLemmas.{counted-product}
+use Rattle.pas_run.proofs.TestLemmas.{place_out}
+use Rattle.pas_run.proofs.SelectorLemmas.{turned_at, turned_more, turned_all, before_lawful, all_stops, does_part}
+use Rattle.pas_run.proofs.SelectorLemmas.{does_variable, buffer_stop, buffer_next}
 use Rattle.pas_run.proofs.ValueLemmas.{goes_value_of, and_by, or_by, goes_and, goes_or, does_product, does_addition}
 use Rattle.pas_run.proofs.ValueLemmas.{does_constant, none_and, none_or}
 use Rattle.pas_run.proofs.machine.Machine.+running.Goals as goal
@@ -473,3 +487,213 @@ disjunction-returns-else-decided-clause-does g t c variables result kinds at is 
     c.args.self.now c.truth.new.self (Ok found)) c.if-decided.false
     (c.in_ok-decided.ensures.does variables result kinds at (is.0.0, is.0.2) most))
     (c.boolean.ensures.does variables result kinds at (is.0.1, is.0.3) most)
+
+-- what a place holds
+
+pub read-returns-in_err-spot-clause-does : goal.read-returns-in_err-spot-clause-does
+read-returns-in_err-spot-clause-does g t c variables result kinds at is most =
+    let program = program_view c.args.scene.program.now in
+    let place = place_view c.args.place.now in
+    does_early most kinds kinds IsNumber (value_of program most (typed.read place)) c.args.self.now
+    c.spot_at.new.self c.in_err-spot.field-0.0 c.from_residual.result
+    (err_from_is_err_and _ c.from_residual.ensures.1)
+    (read_stop most kinds program variables place c.args.self.now c.spot_at.new.self c.in_err-spot.field-0.0
+    (c.in_err-spot.ensures.does variables result kinds at is.0 most))
+
+pub read-returns-clause-does : goal.read-returns-clause-does
+read-returns-clause-does g t c variables result kinds at is most =
+    let program = program_view c.args.scene.program.now in
+    let place = place_view c.args.place.now in
+    read_next most kinds program variables place c.args.self.now c.spot_at.new.self c.read_at.new.self
+    c.in_ok-spot.spot c.read_at.result is.1 (c.in_ok-spot.ensures.does variables result kinds at is.0 most)
+    (λ spot spot_is. subst (λ (type : PasType). IsSpot program variables type c.in_ok-spot.spot spot
+    → Does most kinds kinds IsNumber (ask (meaning.read_at program.types type spot)) c.spot_at.new.self
+    c.read_at.new.self c.read_at.result) (sym c.pas_type.ensures)
+    (λ spot_is. c.read_at.ensures.does variables result kinds at spot spot_is most) spot_is)
+
+-- where a place is
+
+pub spot_at-returns-in_err-slot-clause-does : goal.spot_at-returns-in_err-slot-clause-does
+spot_at-returns-in_err-slot-clause-does g t c variables result kinds at is most =
+    let program = program_view c.args.scene.program.now in
+    let place : Place = place_view c.args.place.now in
+    does_early most kinds kinds (MeansSpot program variables (type_of_place place)) (place_at program most place)
+    c.args.self.now c.args.self.now c.in_err-slot.field-0.0 c.from_residual.result
+    (err_from_is_err_and _ c.from_residual.ensures.1)
+    (buffer_stop program at.lawful variables most kinds c.args.self.now place c.in_err-slot.field-0.0
+    (c.is_buffer.ensures ∙ c.if-is_buffer.true) c.in_err-slot.ensures.variable)
+
+pub spot_at-returns-in_ok-slot-clause-does : goal.spot_at-returns-in_ok-slot-clause-does
+spot_at-returns-in_ok-slot-clause-does g t c variables result kinds at is most =
+    buffer_next (program_view c.args.scene.program.now) at.lawful variables most kinds c.args.self.now
+    (place_view c.args.place.now) c.in_ok-slot.slot c.pas_type.result (c.is_buffer.ensures ∙ c.if-is_buffer.true) is
+    c.pas_type.ensures c.in_ok-slot.ensures.variable
+
+pub spot_at-returns-else-is_buffer-clause-does : goal.spot_at-returns-else-is_buffer-clause-does
+spot_at-returns-else-is_buffer-clause-does g t c =
+    c.part_at.ensures.does (c.is_buffer.ensures ∙ c.if-is_buffer.false)
+
+pub part_at-loop-part-init : goal.part_at-loop-part-init
+part_at-loop-part-init g t c = (
+  refl,
+  refl,
+  λ variables result kinds at is most.
+      let program = program_view c.args.scene.program.now in
+      does_variable program at.lawful variables most kinds c.args.place.now.slot c.args.self.now
+      (before_lawful program at.lawful variables (out-Place c.args.place.now).parts
+      (typed.slot (slot_view c.args.place.now.slot))
+      (subst (IsLawfulPlace program variables) (sym (place_out c.args.place.now)) is)),
+)
+
+pub part_at-loop-part-preserved : goal.part_at-loop-part-preserved
+part_at-loop-part-preserved g t c =
+    let slot = c.args.place.now.slot in
+    let first : Place = typed.slot (slot_view slot) in
+    let items : List code_part.Part = c.as_slice-part-items.result.now in
+    let i = c.loop-part.part-index in
+    let so_far : Place = in_turn first (map part_view (take i items)) in
+    let item : code_part.Part = c.part-item.result in
+    let more : part_view item so_far ≡ in_turn first (map part_view (take (i + 1) items)) =
+    turned_more first part_view items i item c.loop-part-test.true c.part-item.is in
+    let all : in_turn (part_view item so_far) (map part_view (drop (suc i) items)) ≡ place_view c.args.place.now =
+    turned_at first part_view items i item c.loop-part-test.true c.part-item.is
+    ∙ ap (λ (parts : List code_part.Part). in_turn first (map part_view parts)) c.as_slice-part-items.ensures
+    ∙ place_out c.args.place.now in (
+      ap type_of_place (sym more) ∙ c.pas_type-whole.ensures so_far,
+      c.in_ok-behind.ensures.cause ∙ c.loop-part.invariant.1,
+      λ variables result kinds at is most.
+          let program = program_view c.args.scene.program.now in
+          subst (λ (place : Place). Does most kinds kinds (IsBehind program variables slot (type_of_place place))
+          (place_at program most place) c.args.self.now c.behind_part.new.self (Ok c.in_ok-behind.behind)) more
+          (c.in_ok-behind.ensures.does variables result kinds at so_far
+          (before_lawful program at.lawful variables (drop (suc i) items) (part_view item so_far)
+          (subst (IsLawfulPlace program variables) (sym all) is)) c.loop-part.invariant.0 slot most c.args.self.now
+          (subst (λ (type : PasType). Does most kinds kinds (IsBehind program variables slot type)
+          (place_at program most so_far) c.args.self.now c.loop-part.self (Ok c.loop-part.behind))
+          c.loop-part.invariant.0 (c.loop-part.invariant.2 variables result kinds at is most))),
+    )
+
+pub part_at-returns-in_err-behind-clause-does : goal.part_at-returns-in_err-behind-clause-does
+part_at-returns-in_err-behind-clause-does g t c other variables result kinds at is most =
+    let program = program_view c.args.scene.program.now in
+    let place : Place = place_view c.args.place.now in
+    let slot = c.args.place.now.slot in
+    let first : Place = typed.slot (slot_view slot) in
+    let items : List code_part.Part = c.as_slice-part-items.result.now in
+    let i = c.loop-part.part-index in
+    let so_far : Place = in_turn first (map part_view (take i items)) in
+    let item : code_part.Part = c.part-item.result in
+    let all : in_turn (part_view item so_far) (map part_view (drop (suc i) items)) ≡ place =
+    turned_at first part_view items i item c.loop-part-test.true c.part-item.is
+    ∙ ap (λ (parts : List code_part.Part). in_turn first (map part_view parts)) c.as_slice-part-items.ensures
+    ∙ place_out c.args.place.now in
+    does_early most kinds kinds (MeansSpot program variables (type_of_place place)) (place_at program most place)
+    c.args.self.now c.behind_part.new.self c.in_err-behind.field-0.0 c.from_residual.result
+    (err_from_is_err_and _ c.from_residual.ensures.1)
+    (all_stops program at.lawful variables most kinds c.args.self.now c.behind_part.new.self
+    c.in_err-behind.field-0.0 (IsBehind program variables slot (type_of_place (part_view item so_far)))
+    (drop (suc i) items) (part_view item so_far) place all other is
+    (c.in_err-behind.ensures.does variables result kinds at so_far
+    (before_lawful program at.lawful variables (drop (suc i) items) (part_view item so_far)
+    (subst (IsLawfulPlace program variables) (sym all) is)) c.loop-part.invariant.0 slot most c.args.self.now
+    (subst (λ (type : PasType). Does most kinds kinds (IsBehind program variables slot type)
+    (place_at program most so_far) c.args.self.now c.loop-part.self (Ok c.loop-part.behind))
+    c.loop-part.invariant.0 (c.loop-part.invariant.2 variables result kinds at is most))))
+
+pub part_at-returns-clause-does : goal.part_at-returns-clause-does
+part_at-returns-clause-does g t c other variables result kinds at is most =
+    let program = program_view c.args.scene.program.now in
+    let slot = c.args.place.now.slot in
+    let first : Place = typed.slot (slot_view slot) in
+    let items : List code_part.Part = c.as_slice-part-items.result.now in
+    let i = c.loop-part.part-index in
+    let so_far : Place = in_turn first (map part_view (take i items)) in
+    subst (λ (place : Place). Does most kinds kinds (MeansSpot program variables (type_of_place place))
+    (place_at program most place) c.args.self.now c.loop-part.self (Ok (code.Part slot c.loop-part.behind)))
+    (turned_all first part_view items i c.loop-part-test.false
+    ∙ ap (λ (parts : List code_part.Part). in_turn first (map part_view parts)) c.as_slice-part-items.ensures
+    ∙ place_out c.args.place.now)
+    (does_part program at.lawful variables most kinds slot c.loop-part.behind so_far c.args.self.now c.loop-part.self
+    (c.loop-part.invariant.2 variables result kinds at is most))
+
+pub behind_part-returns-in-Element-clause-does : goal.behind_part-returns-in-Element-clause-does
+behind_part-returns-in-Element-clause-does g t c =
+    subst (λ (select : Place → Place). Selects c.args.scene select (type_view c.args.whole) c.args.behind
+    c.args.self.now c.behind_elements.new.self c.behind_elements.result)
+    (sym (ap part_view c.in-Element.is ∙ part_view-Element _ _ _))
+    (c.behind_elements.ensures.does (type_view c.args.whole))
+
+pub behind_part-returns-in-Field-clause-does : goal.behind_part-returns-in-Field-clause-does
+behind_part-returns-in-Field-clause-does g t c =
+    let program = program_view c.args.scene.program.now in
+    subst (λ (select : Place → Place). Selects c.args.scene select (type_view c.args.whole) c.args.behind
+    c.args.self.now c.args.self.now c.behind_fields.result)
+    (sym (ap part_view c.in-Field.is ∙ part_view-Field _ _))
+    (λ variables result kinds at place is same slot most first does.
+    does_field most kinds program at.lawful variables slot place first c.args.self.now c.args.behind
+    (subst (λ (type : PasType). Does most kinds kinds (IsBehind program variables slot type)
+    (place_at program most place) first c.args.self.now (Ok c.args.behind)) (sym same) does) c.in-Field.number
+    (type_view c.in-Field.field-1) c.behind_fields.result is
+    (λ fields are. c.behind_fields.ensures.cells fields
+    (ap (fields_of program.types) (sym same) ∙ are)))
+
+pub behind_part-returns-in-Field-clause-cause : goal.behind_part-returns-in-Field-clause-cause
+behind_part-returns-in-Field-clause-cause g t c =
+    subst (λ failed. CountFailures failed c.args.self.now.files c.args.self.now.files)
+    (sym c.behind_fields.ensures.quiet) refl
+
+pub behind_elements-returns-in_err-found-clause-does : goal.behind_elements-returns-in_err-found-clause-does
+behind_elements-returns-in_err-found-clause-does g t c of_whole variables result kinds at place is same slot most first
+    does =
+    let program = program_view c.args.scene.program.now in
+    let range = range_view c.args.range in
+    let type = type_view c.args.of_element in
+    let index = value_view c.args.index.now in
+    does_early most kinds kinds (IsBehind program variables slot type)
+    (place_at program most (typed.element place range type index)) first c.number.new.self
+    c.in_err-found.field-0.0 c.from_residual.result (err_from_is_err_and _ c.from_residual.ensures.1)
+    (does_no_index most kinds program at.lawful variables slot place first c.args.self.now c.args.behind
+    (subst (λ (type : PasType). Does most kinds kinds (IsBehind program variables slot type)
+    (place_at program most place) first c.args.self.now (Ok c.args.behind)) (sym same) does)
+    range type index is c.number.new.self c.in_err-found.field-0.0
+    (c.in_err-found.ensures.does variables result kinds at (is.1, is.3) most))
+
+pub behind_elements-returns-in_err-number-clause-does : goal.behind_elements-returns-in_err-number-clause-does
+behind_elements-returns-in_err-number-clause-does g t c of_whole variables result kinds at place is same slot most first
+    does =
+    let program = program_view c.args.scene.program.now in
+    let range = range_view c.args.range in
+    let type = type_view c.args.of_element in
+    let index = value_view c.args.index.now in
+    let found : to_z w32 (of_z w32 c.in_ok-found.found) ≡ c.in_ok-found.found = search rules in
+    does_early most kinds kinds (IsBehind program variables slot type)
+    (place_at program most (typed.element place range type index)) first c.number.new.self
+    c.in_err-number.field-0.0 c.from_residual-in_err-number.result
+    (err_from_is_err_and _ c.from_residual-in_err-number.ensures.1)
+    (does_no_element most kinds program at.lawful variables slot place first c.args.self.now c.args.behind
+    (subst (λ (type : PasType). Does most kinds kinds (IsBehind program variables slot type)
+    (place_at program most place) first c.args.self.now (Ok c.args.behind)) (sym same) does)
+    range type index is c.number.new.self c.in_ok-found.found
+    (c.in_ok-found.ensures.does variables result kinds at (is.1, is.3) most) c.in_err-number.field-0.0
+    (subst (λ number. IsElement (element range (holds number)) (Err c.in_err-number.field-0.0)) found
+    c.in_err-number.ensures.number))
+
+pub behind_elements-returns-clause-does : goal.behind_elements-returns-clause-does
+behind_elements-returns-clause-does g t c of_whole variables result kinds at place is same slot most first does =
+    let program = program_view c.args.scene.program.now in
+    let range = range_view c.args.range in
+    let type = type_view c.args.of_element in
+    let index = value_view c.args.index.now in
+    let found : to_z w32 (of_z w32 c.in_ok-found.found) ≡ c.in_ok-found.found = search rules in
+    does_element most kinds program at.lawful variables slot place first c.args.self.now c.args.behind
+    (subst (λ (type : PasType). Does most kinds kinds (IsBehind program variables slot type)
+    (place_at program most place) first c.args.self.now (Ok c.args.behind)) (sym same) does)
+    range type index is c.number.new.self c.in_ok-found.found
+    (c.in_ok-found.ensures.does variables result kinds at (is.1, is.3) most) c.in_ok-number.number
+    c.behind_cells.result
+    (subst (λ number. IsElement (element range (holds number)) (Ok c.in_ok-number.number)) found
+    c.in_ok-number.ensures.number)
+    (c.behind_cells.ensures.count (cells_of program.types type * c.in_ok-number.number)
+    (counted-product (cells_of program.types type) c.in_ok-number.number c.cells_of-each.result c.from.result
+    c.saturating_mul.result (c.cells_of-each.ensures c.args.scene.program.now.spellings) c.from.ensures c.from.type_inv
+    c.saturating_mul.ensures))
