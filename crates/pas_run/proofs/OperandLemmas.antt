@@ -1,6 +1,6 @@
 -- Operands over a machine: values one after another, each behind its check, and what is worked out of them.
-use Rattle.std.proofs.Common.{◌≡◌, ℕ, ℤ, List, refl, sym, ap, ◌∙◌, subst, Bool, true, false, if◌then◌else◌, Result, Ok, Err}
-use Rattle.pas_meaning.specs.Answers.{Answer, fine, wrong, then_answer}
+use Rattle.std.proofs.Common.{◌≡◌, ℕ, ℤ, List, refl, sym, ap, ◌∙◌, subst, Bool, Result, Ok, Err}
+use Rattle.pas_meaning.specs.Answers.{Answer}
 use Rattle.pas_meaning.specs.Outcome.{Doing, pure, ◌>>=◌, answered}
 use Rattle.pas_meaning.specs.Store.{Datum, holds, Store, number_of}
 use Rattle.pas_meaning.specs.Operands.{operand, truth_of}

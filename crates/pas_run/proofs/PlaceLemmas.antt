@@ -1,6 +1,6 @@
 -- Places over a machine: their selectors one after another.
 use Rattle.std.proofs.Common.{◌≡◌, ℕ, ◌+◌, ◌*◌, ◌<◌, ℤ, List, [], ◌∷◌, take, sum_by, Option, Some, None, option_map}
-use Rattle.std.proofs.Common.{◌-◌, ◌^◌, map, min, length, slice_get, arith, refl, sym, ap, ap₂, ◌∙◌, subst, Result, Ok, Err}
+use Rattle.std.proofs.Common.{◌^◌, map, min, length, slice_get, arith, refl, sym, ap, ap₂, ◌∙◌, subst, Result, Ok, Err}
 use Rattle.std.proofs.Math.Nat.{mul_comm}
 use Rattle.std.proofs.lemmas.List.{take_min, take-map}
 use Rattle.std.proofs.lemmas.List.Sums.{sum_by-cons}
@@ -17,7 +17,7 @@ use Rattle.pas_typed.specs.Shapes.{Shape, size, Leads, offset, shape_of}
 use Rattle.pas_typed.proofs.ShapeLemmas.{leads_on, offset_on, element_leads, element_begins, field_leads, field_begins}
 use Rattle.pas_typed.proofs.ShapeLemmas.{size-shape_of}
 use Rattle.pas_meaning.specs.declared.errors.TheConstants.{CALL_LIMIT}
-use Rattle.pas_meaning.specs.Outcome.{Doing, pure, ◌>>=◌, answered, ask}
+use Rattle.pas_meaning.specs.Outcome.{Doing, pure, ◌>>=◌, ask}
 use Rattle.pas_meaning.specs.Store.{Datum, holds, Store}
 use Rattle.pas_meaning.specs.Operands.{operand, element}
 use Rattle.pas_meaning.specs.Run as meaning

@@ -1,6 +1,6 @@
 -- Selectors of a place one after another, and a buffer at its end.
-use Rattle.std.proofs.Common.{◌≡◌, ℕ, ◌+◌, ◌<◌, ◌≤◌, suc, ℤ, List, [], ◌∷◌, ◌++◌, length, map, take, drop, get_or, fold}
-use Rattle.std.proofs.Common.{drop-cons, refl, sym, ap, ◌∙◌, subst, Bool, true, false, Result, Ok}
+use Rattle.std.proofs.Common.{◌≡◌, ℕ, ◌+◌, ◌<◌, ◌≤◌, suc, List, [], ◌∷◌, ◌++◌, length, map, take, drop, get_or}
+use Rattle.std.proofs.Common.{drop-cons, refl, sym, ap, ◌∙◌, subst, true, false, Ok}
 use Rattle.std.proofs.Common.{Err, Option, Some, None, is_some, IsSome, option_map, slice_get}
 use Rattle.std.specs.Prelude.{option_and_then}
 use Rattle.std.proofs.lemmas.Option.{option_and_then_some}

@@ -1,20 +1,20 @@
 -- Numbers that are stored in places, as steps of a run.
-use Rattle.std.proofs.Common.{◌≡◌, ℕ, List, Option, Some, ℤ, refl, sym, subst, Result, Ok, Err}
+use Rattle.std.proofs.Common.{◌≡◌, ℕ, List, Some, ℤ, refl, sym, subst, Result, Ok, Err}
 use Rattle.pas_typed.specs.Types.{PasType, Table}
 use Rattle.pas_typed.specs.Typed.{Slot}
 use Rattle.pas_typed.specs.Shapes.{one_cell}
 use Rattle.pas_meaning.specs.declared.errors.TheConstants.{OUT_OF_RANGE}
 use Rattle.pas_meaning.specs.Answers.{Answer, fine, wrong, then_answer}
 use Rattle.pas_meaning.specs.Files as files
-use Rattle.pas_meaning.specs.Outcome.{Run, Doing, and_then, ◌>>=◌, answered, ask, change, changed}
+use Rattle.pas_meaning.specs.Outcome.{Run, Doing, and_then, answered, ask, change, changed}
 use Rattle.pas_meaning.specs.FileSteps.{change_file}
 use Rattle.pas_meaning.specs.Operands.{byte_of}
 use Rattle.pas_meaning.specs.Store.{Datum, holds, Store, home_of, along, number_in, stored, fits}
 use Rattle.pas_meaning.specs.Run.{part, window, file_of, on_file, store_at}
 use Rattle.pas_meaning.specs.Cells.{IsShaped}
 use Rattle.pas_meaning.specs.Standing.{Kinds}
-use Rattle.pas_meaning.proofs.OnwardLemmas.{goes_answered, goes_ask, goes_change}
-use Rattle.pas_meaning.proofs.GoesLemmas.{goes_set, goes_on_file}
+use Rattle.pas_meaning.proofs.OnwardLemmas.{goes_answered, goes_ask}
+use Rattle.pas_meaning.proofs.GoesLemmas.{goes_set}
 use Rattle.pas_run.specs.declared.ends.Stop.{Stop}
 use Rattle.pas_run.specs.inner.MachineState.{MachineState}
 use Rattle.pas_run.specs.inner.Doings.{Any, Same, IsNumber, Done, Does, Answers, stored_at}

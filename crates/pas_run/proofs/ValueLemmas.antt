@@ -1,7 +1,7 @@
 -- Values over a machine, by their forms.
-use Rattle.std.proofs.Common.{◌≡◌, ℕ, ◌≤◌, ℤ, pos, refl, sym, ap, ◌∙◌, subst, Bool, true, false, Option, Some}
-use Rattle.std.proofs.Common.{if◌then◌else◌, ◌&&◌, ap₂, neg_ℤ, ◌≤ℤ◌, ◌⊎◌, inl, inr, Result, Ok, Err, arith, T}
-use Rattle.std.specs.Prelude.{not, int_le}
+use Rattle.std.proofs.Common.{◌≡◌, ℕ, ◌≤◌, ℤ, pos, refl, subst, Bool, true, false, Some}
+use Rattle.std.proofs.Common.{if◌then◌else◌, ◌&&◌, ap₂, neg_ℤ, ◌≤ℤ◌, ◌⊎◌, inl, inr, Result, arith, T}
+use Rattle.std.specs.Prelude.{int_le}
 use Rattle.std.proofs.lemmas.Int.{ints}
 use Rattle.std.proofs.lemmas.Float.{T_from_true}
 use lib.Signed.{le_z_yes}
@@ -17,7 +17,7 @@ use Rattle.pas_typed.specs.Typed.{Value, TypedProgram}
 use Rattle.pas_meaning.specs.declared.errors.TheConstants.{CALL_LIMIT}
 use Rattle.pas_meaning.specs.Outcome.{Doing, pure}
 use Rattle.pas_meaning.specs.Store.{Datum, holds, Store, fits}
-use Rattle.pas_meaning.specs.Answers.{Answer, fine, wrong}
+use Rattle.pas_meaning.specs.Answers.{fine, wrong}
 use Rattle.pas_meaning.specs.declared.errors.TheConstants.{PAST_MAXINT}
 use Rattle.pas_meaning.specs.Arithmetic.{within_maxint, multiplied, added}
 use Rattle.pas_meaning.specs.Operands.{operand}

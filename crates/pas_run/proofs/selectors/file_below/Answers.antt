@@ -1,4 +1,4 @@
-use Rattle.std.proofs.Common.{arith, refl, ◌∙◌, sym}
+use Rattle.std.proofs.Common.{arith, refl}
 use Rattle.pas_typed.specs.TypedViews.{slot_view}
 use Rattle.pas_run.proofs.TestLemmas.{below_one, below_others}
 use Rattle.pas_run.proofs.selectors.file_below.Goals as goal

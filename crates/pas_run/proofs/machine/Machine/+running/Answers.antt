@@ -1,4 +1,4 @@
-use Rattle.std.proofs.Common.{rules, ◌≡◌, ℕ, ◌+◌, ◌*◌, suc, List, map, take, drop, Err, ℤ, refl, sym, ap, ap₂, ◌∙◌, subst, Bool, true, false, Ok, to_z, of_z, w32, w64}
+use Rattle.std.proofs.Common.{rules, ◌≡◌, ◌+◌, ◌*◌, suc, List, map, take, drop, Err, ℤ, refl, sym, ap, ap₂, ◌∙◌, subst, Bool, true, false, Ok, to_z, of_z, w32, w64}
 use Rattle.std.specs.Prelude.{not}
 use Rattle.std.proofs.lemmas.Result.{err_from_is_err_and}
 use Rattle.pas_syntax.specs.declared.operators.Multiplying.{Multiplying}
@@ -7,7 +7,6 @@ use Rattle.pas_syntax.specs.declared.operators.Adding.{Adding}
 use Rattle.pas_syntax.specs.declared.operators.Adding.TheVariants as adding
 use Rattle.pas_typed.specs.declared.typed.Value as code_value
 use Rattle.pas_typed.specs.declared.typed.Place as code_place
-use Rattle.pas_typed.specs.declared.typed.Call as code_call
 use Rattle.pas_syntax.specs.Views.{in_turn}
 use Rattle.pas_typed.specs.declared.typed.Part as code_part
 use Rattle.pas_typed.specs.declared.typed.Part.TheViews.{out-Place}

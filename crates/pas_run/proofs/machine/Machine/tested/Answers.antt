@@ -4,7 +4,7 @@ use Rattle.pas_typed.specs.Typed as typed
 use Rattle.pas_typed.specs.Typed.{Slot}
 use Rattle.pas_typed.specs.TypedViews.{slot_view, file_test_view, place_view, program_view}
 use Rattle.pas_meaning.specs.Answers.{fine}
-use Rattle.pas_meaning.specs.Run.{file_variable, file_of, test_of}
+use Rattle.pas_meaning.specs.Run.{file_of, test_of}
 use Rattle.pas_run.specs.inner.Doings.{Same, IsNumber}
 use Rattle.pas_run.specs.inner.Scenes.{IsFileSlot}
 use Rattle.pas_run.specs.inner.Evaluating.{value_of}
