@@ -99,6 +99,10 @@ module _ {A T U : Type 0} (most : ℕ) (kinds later : Kinds) (Is : T → A → T
         stops_so ports run.world (doing run) why (does.each ports run stands within);
   }
 
+-- a buffer is one
+pub no_buffer : (file : Place) (type : PasType) → is_buffer (typed.buffer file type) ≡ false → ⊥
+no_buffer file type other = cc
+
 -- an ordinal type is no file
 no_structure : (structure : Structure) (type : PasType) → IsSome (range_in structure)
     → component_in structure ≡ Some type → ⊥
@@ -161,7 +165,7 @@ module _ (program : TypedProgram) (lawful : IsLawful program) (variables : List 
       no_file program.types type (type_view component)
       (component-ordinal program.types (type_of_place file) type lawful.types is.0.1) is.1
 
-  not_buffer : (parts : List code_part.Part) (place : Place)
+  pub not_buffer : (parts : List code_part.Part) (place : Place)
       → is_buffer (in_turn place (map part_view parts)) ≡ false
       → IsLawfulPlace program variables (in_turn place (map part_view parts)) → is_buffer place ≡ false
   not_buffer [] place other is = other

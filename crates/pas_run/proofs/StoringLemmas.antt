@@ -23,7 +23,8 @@ use Rattle.pas_run.proofs.DoesLemmas.{does_stop, does_next, does_answered}
 -- a datum that fits is stored
 put_by : (answer : Answer Datum) (slot : Slot) (path : List ℕ) (run : Run Store)
     → and_then (answered answer run) (λ checked. change (stored_at slot path checked))
-    ≡ changed (λ store. then_answer answer (λ checked. fine (stored (along (home_of slot store) path) checked store))) run
+    ≡ changed (λ store. then_answer answer (λ checked. fine (stored (along (home_of slot store) path) checked
+    store))) run
 put_by (fine checked) slot path run = refl
 put_by (wrong kind) slot path run = refl
 

@@ -1,5 +1,6 @@
 -- Questions to the files that variables are, as steps of a run.
-use Rattle.std.proofs.Common.{◌≡◌, ℕ, ℤ, List, [], ◌∷◌, map, length, arith, refl, sym, ap, ◌∙◌, subst, Bool, Result, Ok, Err}
+use Rattle.std.proofs.Common.{◌≡◌, ℕ, ℤ, List, [], ◌∷◌, map, length, arith, refl, sym, ap, ◌∙◌, subst, Bool, Result}
+use Rattle.std.proofs.Common.{Ok, Err}
 use Rattle.pas_syntax.specs.Views.{in_turn}
 use Rattle.pas_typed.specs.declared.typed.Place as code_place
 use Rattle.pas_typed.specs.declared.typed.Part as code_part

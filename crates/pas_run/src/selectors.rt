@@ -76,7 +76,7 @@ impl<P: Port> Machine<P> {
                 self.behind_elements(scene, *element, behind, *range, index, levels)
             }
             Part::Field(number, _) => behind_fields(scene, whole, behind, *number),
-            Part::Buffer(_) => Err(Stop::OutOfMemory),
+            Part::Buffer(_) => Err(Stop::Wrong(WRONG_MODE)),
         }
     }
 
@@ -140,7 +140,7 @@ fn behind_fields(scene: Scene<'_>, whole: PasType, behind: u32, number: u32) -> 
             let count = fields.len().min(number as usize);
             behind_cells(behind, cells_of_all(scene, &fields[..count]))
         }
-        None => Err(Stop::OutOfMemory),
+        None => Err(Stop::Wrong(WRONG_MODE)),
     }
 }
 

@@ -1,11 +1,11 @@
 -- What functions of a machine find of values and places: what the meaning does, from each scene in which they are
 -- lawful. This project's own.
-use Rattle.std.specs.Prelude.{◌≡◌, ℕ, ℤ, List, Bool, Option, Some, Result, Ok, Err, ⊤}
+use Rattle.std.specs.Prelude.{◌≡◌, ℕ, ℤ, List, Bool, false, Option, Some, Result, Ok, Err, ⊤}
 use Rattle.pas_typed.specs.Types.{PasType, whole, boolean}
 use Rattle.pas_typed.specs.Typed.{Variable, Slot, Value, Place, TypedProgram}
 use Rattle.pas_typed.specs.TypedViews.{slot_view, program_view}
 use Rattle.pas_typed.specs.declared.typed.Slot.{Slot as CodeSlot}
-use Rattle.pas_typed.specs.TypeOf.{type_of_place}
+use Rattle.pas_typed.specs.TypeOf.{type_of_place, is_buffer}
 use Rattle.pas_typed.specs.TypeViews.{type_view}
 use Rattle.pas_typed.specs.Shapes.{Leads, offset, shape_of}
 use Rattle.pas_typed.specs.Lawful.{IsOrdinal, IsLawfulNumber, IsLawfulSlot, IsLawfulPlace}
@@ -109,12 +109,13 @@ Locates scene place before now result =
 abbrev pub IsBehind : (program : TypedProgram) → List Variable → CodeSlot → PasType → ℕ → Spot → Type 0
 IsBehind program variables slot type behind place = MeansSpot program variables type (code.Part slot behind) place
 
--- where the part is that is selected of a place of a type, which begins behind so many cells of a variable
+-- where the part is, no buffer, that is selected of a place of a type, which begins behind so many cells of a variable
 abbrev pub Selects : Scene → (Place → Place) → PasType → ℕ → MachineState → MachineState → Result ℕ Stop → Type 0
 Selects scene select type behind before now result =
     (variables : List Variable) (result' : Option PasType) (kinds : Kinds) → IsScene scene variables result' kinds
     → (place : Place) → IsLawfulPlace (program_view scene.program.now) variables (select place)
-    → type_of_place place ≡ type → (slot : CodeSlot) (most : ℕ) (first : MachineState)
+    → is_buffer (select place) ≡ false → type_of_place place ≡ type → (slot : CodeSlot) (most : ℕ) (first :
+    MachineState)
     → Does most kinds kinds (IsBehind (program_view scene.program.now) variables slot type)
     (place_at (program_view scene.program.now) most place) first before (Ok behind)
     → Does most kinds kinds (IsBehind (program_view scene.program.now) variables slot (type_of_place (select place)))

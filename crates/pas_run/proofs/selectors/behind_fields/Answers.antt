@@ -1,4 +1,4 @@
-use Rattle.std.proofs.Common.{◌≡◌, List, map, take, sum_by, sym, ap, ◌∙◌}
+use Rattle.std.proofs.Common.{Option, Some, None, ◌≡◌, List, map, take, sum_by, sym, ap, ◌∙◌}
 use Rattle.std.proofs.lemmas.Option.{same_Some}
 use Rattle.pas_typed.specs.Types.{Field, cells_of}
 use Rattle.pas_typed.specs.TypeViews.{field_view, counted}
@@ -17,3 +17,10 @@ returns-in-Some-clause-cells c fields is =
     (ap (take c.args.number) (sym same)
     ∙ taken_fields (field_view spellings) c.in-Some.fields.now c.args.number c.min-count.result c.min-count.ensures)
     ∙ c.cells_of_all.ensures)
+
+nothing : (fields : List Field) → None ≡ Some fields → ⊥
+nothing fields same = cc
+
+pub returns-in-None-clause-cells : goal.returns-in-None-clause-cells
+returns-in-None-clause-cells c fields is =
+    nothing fields (sym (c.in-None.ensures c.args.scene.program.now.spellings) ∙ is)

@@ -1,4 +1,5 @@
-use Rattle.std.proofs.Common.{rules, ◌≡◌, ◌+◌, ◌*◌, suc, List, map, take, drop, Err, ℤ, refl, sym, ap, ap₂, ◌∙◌, subst, Bool, true, false, Ok, to_z, of_z, w32, w64}
+use Rattle.std.proofs.Common.{rules, ◌≡◌, ◌+◌, ◌*◌, suc, List, map, take, drop, Err, ℤ, refl, sym, ap, ap₂, ◌∙◌}
+use Rattle.std.proofs.Common.{subst, Bool, true, false, Ok, to_z, of_z, w32, w64}
 use Rattle.std.specs.Prelude.{not}
 use Rattle.std.proofs.lemmas.Result.{err_from_is_err_and}
 use Rattle.pas_syntax.specs.declared.operators.Multiplying.{Multiplying}
@@ -11,14 +12,14 @@ use Rattle.pas_syntax.specs.Views.{in_turn}
 use Rattle.pas_typed.specs.declared.typed.Part as code_part
 use Rattle.pas_typed.specs.declared.typed.Part.TheViews.{out-Place}
 use Rattle.pas_typed.specs.Types.{PasType, whole, boolean, fields_of, cells_of}
-use Rattle.pas_typed.specs.TypeOf.{type_of_place}
+use Rattle.pas_typed.specs.TypeOf.{type_of_place, is_buffer}
 use Rattle.pas_typed.specs.Lawful.{IsLawfulPlace}
 use Rattle.pas_typed.specs.Typed as typed
 use Rattle.pas_typed.specs.Typed.{Value, Place}
 use Rattle.pas_typed.specs.TypedViews.{function_view, file_test_view, value_view, place_view, call_view}
 use Rattle.pas_typed.specs.TypeViews.{base_view, range_view, type_view}
 use Rattle.pas_typed.specs.TypedViews.{slot_view, part_view, program_view}
-use Rattle.pas_typed.proofs.ValueViews.{part_view-Element, part_view-Field}
+use Rattle.pas_typed.proofs.ValueViews.{part_view-Element, part_view-Field, part_view-Buffer}
 use Rattle.pas_typed.proofs.ValueViews.{value_view-Read, value_view-Call, value_view-Applied, value_view-Tested}
 use Rattle.pas_typed.proofs.ValueViews.{value_view-Parenthesized, value_view-Signed, value_view-Negated}
 use Rattle.pas_typed.proofs.ValueViews.{value_view-Product, value_view-Addition, value_view-Comparison}
@@ -31,7 +32,8 @@ use Rattle.pas_meaning.specs.Operands.{operand, truth_of, element}
 use Rattle.pas_meaning.specs.Run as meaning
 use Rattle.pas_meaning.proofs.OnwardLemmas.{goes_pure}
 use Rattle.pas_run.specs.inner.Doings.{Same, IsNumber, Does, Answers}
-use Rattle.pas_run.specs.inner.Evaluating.{value_of, place_at, twice, Evaluates, MeansSpot, IsBehind, Selects, IsElement}
+use Rattle.pas_run.specs.inner.Evaluating.{value_of, place_at, twice, Evaluates, MeansSpot, IsBehind, Selects}
+use Rattle.pas_run.specs.inner.Evaluating.{IsElement}
 use Rattle.pas_run.specs.declared.spots.Spot.TheVariants as code
 use Rattle.pas_run.specs.inner.MachineState.{CountFailures}
 use Rattle.pas_run.proofs.DoesLemmas.{does_early, does_pure}
@@ -42,7 +44,7 @@ use Rattle.pas_run.proofs.PlaceLemmas.{read_stop, read_next, does_field, does_no
 use Rattle.pas_run.proofs.PlaceLemmas.{counted-product}
 use Rattle.pas_run.proofs.TestLemmas.{place_out}
 use Rattle.pas_run.proofs.SelectorLemmas.{turned_at, turned_more, turned_all, before_lawful, all_stops, does_part}
-use Rattle.pas_run.proofs.SelectorLemmas.{does_variable, buffer_stop, buffer_next}
+use Rattle.pas_run.proofs.SelectorLemmas.{does_variable, buffer_stop, buffer_next, not_buffer, no_buffer}
 use Rattle.pas_run.proofs.ValueLemmas.{goes_value_of, and_by, or_by, goes_and, goes_or, does_product, does_addition}
 use Rattle.pas_run.proofs.ValueLemmas.{does_constant, none_and, none_or}
 use Rattle.pas_run.proofs.machine.Machine.+running.Goals as goal
@@ -61,12 +63,14 @@ number-returns-in-Constant-clause-does g t c =
 pub number-returns-in-Read-clause-does : goal.number-returns-in-Read-clause-does
 number-returns-in-Read-clause-does g t c =
     subst (λ (found : Value). Evaluates c.args.scene found c.args.self.now c.read.new.self c.read.result)
-    (sym (ap value_view c.in-Read.is ∙ value_view-Read _ ∙ ap (λ (place : code_place.Place). typed.read (place_view place)) (sym c.get.ensures)))
+    (sym (ap value_view c.in-Read.is ∙ value_view-Read _ ∙ ap (λ (place : code_place.Place). typed.read (place_view
+    place)) (sym c.get.ensures)))
     c.read.ensures.does
 
 pub number-returns-in-Call-clause-does : goal.number-returns-in-Call-clause-does
 number-returns-in-Call-clause-does g t c =
-    subst (λ (found : Value). Evaluates c.args.scene found c.args.self.now c.function_result.new.self c.function_result.result)
+    subst (λ (found : Value). Evaluates c.args.scene found c.args.self.now c.function_result.new.self
+    c.function_result.result)
     (sym (ap value_view c.in-Call.is ∙ value_view-Call _ ∙ ap call_view (sym c.get-in-Call.ensures)))
     c.function_result.ensures.does
 
@@ -95,7 +99,8 @@ number-returns-in-Parenthesized-clause-does g t c =
 
 pub number-returns-in-Signed-clause-does : goal.number-returns-in-Signed-clause-does
 number-returns-in-Signed-clause-does g t c =
-    subst (λ (found : Value). Evaluates c.args.scene found c.args.self.now c.signed_value.new.self c.signed_value.result)
+    subst (λ (found : Value). Evaluates c.args.scene found c.args.self.now c.signed_value.new.self
+    c.signed_value.result)
     (sym (ap value_view c.in-Signed.is ∙ value_view-Signed _ _
     ∙ ap (λ (one : code_value.Value). typed.signed c.in-Signed.sign (value_view one)) (sym c.get-in-Signed.ensures)))
     c.signed_value.ensures.does
@@ -111,7 +116,8 @@ pub number-returns-in-Product-clause-does : goal.number-returns-in-Product-claus
 number-returns-in-Product-clause-does g t c =
     subst (λ (found : Value). Evaluates c.args.scene found c.args.self.now c.product.new.self c.product.result)
     (sym (ap value_view c.in-Product.is ∙ value_view-Product _ _ _
-    ∙ ap (λ (one : code_value.Value). typed.product (value_view one) c.in-Product.operator (value_view c.in-Product.right))
+    ∙ ap (λ (one : code_value.Value). typed.product (value_view one) c.in-Product.operator (value_view
+    c.in-Product.right))
     (sym c.get-in-Product.ensures)
     ∙ ap (λ (other : code_value.Value). typed.product (value_view c.get-in-Product.result.now) c.in-Product.operator
     (value_view other)) (sym c.get-in-Product-2.ensures)))
@@ -121,7 +127,8 @@ pub number-returns-in-Addition-clause-does : goal.number-returns-in-Addition-cla
 number-returns-in-Addition-clause-does g t c =
     subst (λ (found : Value). Evaluates c.args.scene found c.args.self.now c.addition.new.self c.addition.result)
     (sym (ap value_view c.in-Addition.is ∙ value_view-Addition _ _ _
-    ∙ ap (λ (one : code_value.Value). typed.addition (value_view one) c.in-Addition.operator (value_view c.in-Addition.right))
+    ∙ ap (λ (one : code_value.Value). typed.addition (value_view one) c.in-Addition.operator (value_view
+    c.in-Addition.right))
     (sym c.get-in-Addition.ensures)
     ∙ ap (λ (other : code_value.Value). typed.addition (value_view c.get-in-Addition.result.now) c.in-Addition.operator
     (value_view other)) (sym c.get-in-Addition-2.ensures)))
@@ -164,9 +171,11 @@ pub boolean-returns-in_err-found-clause-does : goal.boolean-returns-in_err-found
 boolean-returns-in_err-found-clause-does g t c variables result kinds at is most =
     let program = program_view c.args.scene.program.now in
     let one = value_of program most (value_view c.args.value.now) in
-    does_early most kinds kinds IsNumber (operand (fits program.types (whole boolean)) one) c.args.self.now c.number.new.self
+    does_early most kinds kinds IsNumber (operand (fits program.types (whole boolean)) one) c.args.self.now
+    c.number.new.self
     c.in_err-found.field-0.0 c.from_residual.result (err_from_is_err_and _ c.from_residual.ensures.1)
-    (operand_stop most kinds IsNumber (fits program.types (whole boolean)) one c.args.self.now c.number.new.self c.in_err-found.field-0.0
+    (operand_stop most kinds IsNumber (fits program.types (whole boolean)) one c.args.self.now c.number.new.self
+    c.in_err-found.field-0.0
     (c.in_err-found.ensures.does variables result kinds at is most))
 
 pub boolean-returns-clause-does : goal.boolean-returns-clause-does
@@ -174,7 +183,8 @@ boolean-returns-clause-does g t c variables result kinds at is most =
     let program = program_view c.args.scene.program.now in
     let one = value_of program most (value_view c.args.value.now) in
     let found : to_z w32 (of_z w32 c.in_ok-found.found) ≡ c.in_ok-found.found = search rules in
-    operand_next most kinds IsNumber (fits program.types (whole boolean)) one c.args.self.now c.number.new.self c.in_ok-found.found
+    operand_next most kinds IsNumber (fits program.types (whole boolean)) one c.args.self.now c.number.new.self
+    c.in_ok-found.found
     c.fits.result (goes_value_of program most (value_view c.args.value.now))
     (c.in_ok-found.ensures.does variables result kinds at is most)
     (subst (λ number. Answers IsNumber ((fits program.types (whole boolean)) (holds number)) c.fits.result) found
@@ -186,10 +196,12 @@ pub applied-returns-in_err-found-clause-does : goal.applied-returns-in_err-found
 applied-returns-in_err-found-clause-does g t c variables result kinds at is most =
     let program = program_view c.args.scene.program.now in
     let one = value_view c.args.argument.now in
-    does_early most kinds kinds IsNumber (value_of program most (typed.applied (function_view c.args.function) one)) c.args.self.now
+    does_early most kinds kinds IsNumber (value_of program most (typed.applied (function_view c.args.function) one))
+    c.args.self.now
     c.number.new.self c.in_err-found.field-0.0 c.from_residual.result
     (err_from_is_err_and _ c.from_residual.ensures.1)
-    (once_stop most kinds (function_at (function_view c.args.function)) (value_of program most one) c.args.self.now c.number.new.self
+    (once_stop most kinds (function_at (function_view c.args.function)) (value_of program most one) c.args.self.now
+    c.number.new.self
     c.in_err-found.field-0.0 (c.in_err-found.ensures.does variables result kinds at is.0 most))
 
 pub applied-returns-clause-does : goal.applied-returns-clause-does
@@ -197,10 +209,12 @@ applied-returns-clause-does g t c variables result kinds at is most =
     let program = program_view c.args.scene.program.now in
     let one = value_view c.args.argument.now in
     let found : to_z w32 (of_z w32 c.in_ok-found.found) ≡ c.in_ok-found.found = search rules in
-    once_next most kinds (function_at (function_view c.args.function)) (value_of program most one) c.args.self.now c.number.new.self
+    once_next most kinds (function_at (function_view c.args.function)) (value_of program most one) c.args.self.now
+    c.number.new.self
     c.in_ok-found.found c.function_at.result (goes_value_of program most one)
     (c.in_ok-found.ensures.does variables result kinds at is.0 most)
-    (subst (λ number. Answers Same (function_at (function_view c.args.function) number) c.function_at.result) found c.function_at.ensures)
+    (subst (λ number. Answers Same (function_at (function_view c.args.function) number) c.function_at.result) found
+    c.function_at.ensures)
 
 pub signed_value-returns-in_err-found-clause-does : goal.signed_value-returns-in_err-found-clause-does
 signed_value-returns-in_err-found-clause-does g t c variables result kinds at is most =
@@ -252,9 +266,11 @@ multiplication-returns-in_err-first-clause-does g t c variables result kinds at 
     let program = program_view c.args.scene.program.now in
     let one = value_of program most (value_view c.args.left.now) in
     let other = value_of program most (value_view c.args.right.now) in
-    does_early most kinds kinds IsNumber (twice (multiplied c.args.operator) one other) c.args.self.now c.number.new.self
+    does_early most kinds kinds IsNumber (twice (multiplied c.args.operator) one other) c.args.self.now
+    c.number.new.self
     c.in_err-first.field-0.0 c.from_residual.result (err_from_is_err_and _ c.from_residual.ensures.1)
-    (twice_stop most kinds (multiplied c.args.operator) one other (goes_value_of program most (value_view c.args.right.now))
+    (twice_stop most kinds (multiplied c.args.operator) one other (goes_value_of program most (value_view
+    c.args.right.now))
     c.args.self.now c.number.new.self c.in_err-first.field-0.0
     (c.in_err-first.ensures.does variables result kinds at is.0 most))
 
@@ -263,10 +279,12 @@ multiplication-returns-in_err-second-clause-does g t c variables result kinds at
     let program = program_view c.args.scene.program.now in
     let one = value_of program most (value_view c.args.left.now) in
     let other = value_of program most (value_view c.args.right.now) in
-    does_early most kinds kinds IsNumber (twice (multiplied c.args.operator) one other) c.args.self.now c.number-2.new.self
+    does_early most kinds kinds IsNumber (twice (multiplied c.args.operator) one other) c.args.self.now
+    c.number-2.new.self
     c.in_err-second.field-0.0 c.from_residual-in_err-second.result
     (err_from_is_err_and _ c.from_residual-in_err-second.ensures.1)
-    (twice_stop_behind most kinds (multiplied c.args.operator) one other (goes_value_of program most (value_view c.args.right.now))
+    (twice_stop_behind most kinds (multiplied c.args.operator) one other (goes_value_of program most (value_view
+    c.args.right.now))
     c.args.self.now c.number.new.self c.number-2.new.self c.in_ok-first.first c.in_err-second.field-0.0
     (goes_value_of program most (value_view c.args.left.now))
     (c.in_ok-first.ensures.does variables result kinds at is.0 most)
@@ -279,13 +297,16 @@ multiplication-returns-clause-does g t c variables result kinds at is most =
     let other = value_of program most (value_view c.args.right.now) in
     let first : to_z w32 (of_z w32 c.in_ok-first.first) ≡ c.in_ok-first.first = search rules in
     let second : to_z w32 (of_z w32 c.in_ok-second.second) ≡ c.in_ok-second.second = search rules in
-    twice_next most kinds (multiplied c.args.operator) one other (goes_value_of program most (value_view c.args.right.now))
+    twice_next most kinds (multiplied c.args.operator) one other (goes_value_of program most (value_view
+    c.args.right.now))
     c.args.self.now c.number.new.self c.number-2.new.self c.in_ok-first.first c.in_ok-second.second
     c.multiplied.result (goes_value_of program most (value_view c.args.left.now))
     (c.in_ok-first.ensures.does variables result kinds at is.0 most)
     (c.in_ok-second.ensures.does variables result kinds at is.1 most)
-    (subst (λ (second : ℤ). Answers Same (multiplied c.args.operator c.in_ok-first.first second) c.multiplied.result) second
-    (subst (λ (first : ℤ). Answers Same (multiplied c.args.operator first (to_z w32 (of_z w32 c.in_ok-second.second))) c.multiplied.result)
+    (subst (λ (second : ℤ). Answers Same (multiplied c.args.operator c.in_ok-first.first second) c.multiplied.result)
+    second
+    (subst (λ (first : ℤ). Answers Same (multiplied c.args.operator first (to_z w32 (of_z w32
+    c.in_ok-second.second))) c.multiplied.result)
     first c.multiplied.ensures))
 
 pub sum-returns-in_err-first-clause-does : goal.sum-returns-in_err-first-clause-does
@@ -307,7 +328,8 @@ sum-returns-in_err-second-clause-does g t c variables result kinds at is most =
     does_early most kinds kinds IsNumber (twice (added c.args.operator) one other) c.args.self.now c.number-2.new.self
     c.in_err-second.field-0.0 c.from_residual-in_err-second.result
     (err_from_is_err_and _ c.from_residual-in_err-second.ensures.1)
-    (twice_stop_behind most kinds (added c.args.operator) one other (goes_value_of program most (value_view c.args.right.now))
+    (twice_stop_behind most kinds (added c.args.operator) one other (goes_value_of program most (value_view
+    c.args.right.now))
     c.args.self.now c.number.new.self c.number-2.new.self c.in_ok-first.first c.in_err-second.field-0.0
     (goes_value_of program most (value_view c.args.left.now))
     (c.in_ok-first.ensures.does variables result kinds at is.0 most)
@@ -326,7 +348,8 @@ sum-returns-clause-does g t c variables result kinds at is most =
     (c.in_ok-first.ensures.does variables result kinds at is.0 most)
     (c.in_ok-second.ensures.does variables result kinds at is.1 most)
     (subst (λ (second : ℤ). Answers Same (added c.args.operator c.in_ok-first.first second) c.added.result) second
-    (subst (λ (first : ℤ). Answers Same (added c.args.operator first (to_z w32 (of_z w32 c.in_ok-second.second))) c.added.result)
+    (subst (λ (first : ℤ). Answers Same (added c.args.operator first (to_z w32 (of_z w32 c.in_ok-second.second)))
+    c.added.result)
     first c.added.ensures))
 
 pub comparison-returns-in_err-first-clause-does : goal.comparison-returns-in_err-first-clause-does
@@ -334,9 +357,11 @@ comparison-returns-in_err-first-clause-does g t c variables result kinds at is m
     let program = program_view c.args.scene.program.now in
     let one = value_of program most (value_view c.args.left.now) in
     let other = value_of program most (value_view c.args.right.now) in
-    does_early most kinds kinds IsNumber (twice (λ first second. fine (truth (compared c.args.relation first second))) one other) c.args.self.now c.number.new.self
+    does_early most kinds kinds IsNumber (twice (λ first second. fine (truth (compared c.args.relation first
+    second))) one other) c.args.self.now c.number.new.self
     c.in_err-first.field-0.0 c.from_residual.result (err_from_is_err_and _ c.from_residual.ensures.1)
-    (twice_stop most kinds (λ first second. fine (truth (compared c.args.relation first second))) one other (goes_value_of program most (value_view c.args.right.now))
+    (twice_stop most kinds (λ first second. fine (truth (compared c.args.relation first second))) one other
+    (goes_value_of program most (value_view c.args.right.now))
     c.args.self.now c.number.new.self c.in_err-first.field-0.0
     (c.in_err-first.ensures.does variables result kinds at is.0 most))
 
@@ -345,10 +370,12 @@ comparison-returns-in_err-second-clause-does g t c variables result kinds at is 
     let program = program_view c.args.scene.program.now in
     let one = value_of program most (value_view c.args.left.now) in
     let other = value_of program most (value_view c.args.right.now) in
-    does_early most kinds kinds IsNumber (twice (λ first second. fine (truth (compared c.args.relation first second))) one other) c.args.self.now c.number-2.new.self
+    does_early most kinds kinds IsNumber (twice (λ first second. fine (truth (compared c.args.relation first
+    second))) one other) c.args.self.now c.number-2.new.self
     c.in_err-second.field-0.0 c.from_residual-in_err-second.result
     (err_from_is_err_and _ c.from_residual-in_err-second.ensures.1)
-    (twice_stop_behind most kinds (λ first second. fine (truth (compared c.args.relation first second))) one other (goes_value_of program most (value_view c.args.right.now))
+    (twice_stop_behind most kinds (λ first second. fine (truth (compared c.args.relation first second))) one other
+    (goes_value_of program most (value_view c.args.right.now))
     c.args.self.now c.number.new.self c.number-2.new.self c.in_ok-first.first c.in_err-second.field-0.0
     (goes_value_of program most (value_view c.args.left.now))
     (c.in_ok-first.ensures.does variables result kinds at is.0 most)
@@ -362,7 +389,8 @@ comparison-returns-clause-does g t c variables result kinds at is most =
     let first : to_z w32 (of_z w32 c.in_ok-first.first) ≡ c.in_ok-first.first = search rules in
     let second : to_z w32 (of_z w32 c.in_ok-second.second) ≡ c.in_ok-second.second = search rules in
     let number : to_z w32 (of_z w32 c.number_of.result) ≡ c.number_of.result = search rules in
-    twice_next most kinds (λ first second. fine (truth (compared c.args.relation first second))) one other (goes_value_of program most (value_view c.args.right.now))
+    twice_next most kinds (λ first second. fine (truth (compared c.args.relation first second))) one other
+    (goes_value_of program most (value_view c.args.right.now))
     c.args.self.now c.number.new.self c.number-2.new.self c.in_ok-first.first c.in_ok-second.second
     _ (goes_value_of program most (value_view c.args.left.now))
     (c.in_ok-first.ensures.does variables result kinds at is.0 most)
@@ -416,7 +444,8 @@ conjunction-returns-in_err-decided-clause-does g t c variables result kinds at i
     let program = program_view c.args.scene.program.now in
     let left = value_view c.args.left.now in
     let right = value_view c.args.right.now in
-    does_early most kinds kinds IsNumber (value_of program most (typed.product left multiplying.And right)) c.args.self.now
+    does_early most kinds kinds IsNumber (value_of program most (typed.product left multiplying.And right))
+    c.args.self.now
     c.truth.new.self c.in_err-decided.field-0.0 c.from_residual.result
     (err_from_is_err_and _ c.from_residual.ensures.1)
     (truth_stop most kinds (value_of program most left) (and_by program most right) (goes_and program most right)
@@ -536,7 +565,7 @@ pub part_at-loop-part-init : goal.part_at-loop-part-init
 part_at-loop-part-init g t c = (
   refl,
   refl,
-  λ variables result kinds at is most.
+  λ other variables result kinds at is most.
       let program = program_view c.args.scene.program.now in
       does_variable program at.lawful variables most kinds c.args.place.now.slot c.args.self.now
       (before_lawful program at.lawful variables (out-Place c.args.place.now).parts
@@ -560,16 +589,19 @@ part_at-loop-part-preserved g t c =
     ∙ place_out c.args.place.now in (
       ap type_of_place (sym more) ∙ c.pas_type-whole.ensures so_far,
       c.in_ok-behind.ensures.cause ∙ c.loop-part.invariant.1,
-      λ variables result kinds at is most.
+      λ other variables result kinds at is most.
           let program = program_view c.args.scene.program.now in
           subst (λ (place : Place). Does most kinds kinds (IsBehind program variables slot (type_of_place place))
           (place_at program most place) c.args.self.now c.behind_part.new.self (Ok c.in_ok-behind.behind)) more
           (c.in_ok-behind.ensures.does variables result kinds at so_far
           (before_lawful program at.lawful variables (drop (suc i) items) (part_view item so_far)
+          (subst (IsLawfulPlace program variables) (sym all) is))
+          (not_buffer program at.lawful variables (drop (suc i) items) (part_view item so_far)
+          (subst (λ (place : Place). is_buffer place ≡ false) (sym all) other)
           (subst (IsLawfulPlace program variables) (sym all) is)) c.loop-part.invariant.0 slot most c.args.self.now
           (subst (λ (type : PasType). Does most kinds kinds (IsBehind program variables slot type)
           (place_at program most so_far) c.args.self.now c.loop-part.self (Ok c.loop-part.behind))
-          c.loop-part.invariant.0 (c.loop-part.invariant.2 variables result kinds at is most))),
+          c.loop-part.invariant.0 (c.loop-part.invariant.2 other variables result kinds at is most))),
     )
 
 pub part_at-returns-in_err-behind-clause-does : goal.part_at-returns-in_err-behind-clause-does
@@ -594,10 +626,13 @@ part_at-returns-in_err-behind-clause-does g t c other variables result kinds at 
     (drop (suc i) items) (part_view item so_far) place all other is
     (c.in_err-behind.ensures.does variables result kinds at so_far
     (before_lawful program at.lawful variables (drop (suc i) items) (part_view item so_far)
+    (subst (IsLawfulPlace program variables) (sym all) is))
+    (not_buffer program at.lawful variables (drop (suc i) items) (part_view item so_far)
+    (subst (λ (place : Place). is_buffer place ≡ false) (sym all) other)
     (subst (IsLawfulPlace program variables) (sym all) is)) c.loop-part.invariant.0 slot most c.args.self.now
     (subst (λ (type : PasType). Does most kinds kinds (IsBehind program variables slot type)
     (place_at program most so_far) c.args.self.now c.loop-part.self (Ok c.loop-part.behind))
-    c.loop-part.invariant.0 (c.loop-part.invariant.2 variables result kinds at is most))))
+    c.loop-part.invariant.0 (c.loop-part.invariant.2 other variables result kinds at is most))))
 
 pub part_at-returns-clause-does : goal.part_at-returns-clause-does
 part_at-returns-clause-does g t c other variables result kinds at is most =
@@ -613,7 +648,7 @@ part_at-returns-clause-does g t c other variables result kinds at is most =
     ∙ ap (λ (parts : List code_part.Part). in_turn first (map part_view parts)) c.as_slice-part-items.ensures
     ∙ place_out c.args.place.now)
     (does_part program at.lawful variables most kinds slot c.loop-part.behind so_far c.args.self.now c.loop-part.self
-    (c.loop-part.invariant.2 variables result kinds at is most))
+    (c.loop-part.invariant.2 other variables result kinds at is most))
 
 pub behind_part-returns-in-Element-clause-does : goal.behind_part-returns-in-Element-clause-does
 behind_part-returns-in-Element-clause-does g t c =
@@ -622,13 +657,19 @@ behind_part-returns-in-Element-clause-does g t c =
     (sym (ap part_view c.in-Element.is ∙ part_view-Element _ _ _))
     (c.behind_elements.ensures.does (type_view c.args.whole))
 
+pub behind_part-returns-in-Buffer-clause-does : goal.behind_part-returns-in-Buffer-clause-does
+behind_part-returns-in-Buffer-clause-does g t c variables result kinds at place is other same slot most first does =
+    absurd (no_buffer place (type_view c.in-Buffer.field-0)
+    (subst (λ (select : Place → Place). is_buffer (select place) ≡ false)
+    (ap part_view c.in-Buffer.is ∙ part_view-Buffer _) other))
+
 pub behind_part-returns-in-Field-clause-does : goal.behind_part-returns-in-Field-clause-does
 behind_part-returns-in-Field-clause-does g t c =
     let program = program_view c.args.scene.program.now in
     subst (λ (select : Place → Place). Selects c.args.scene select (type_view c.args.whole) c.args.behind
     c.args.self.now c.args.self.now c.behind_fields.result)
     (sym (ap part_view c.in-Field.is ∙ part_view-Field _ _))
-    (λ variables result kinds at place is same slot most first does.
+    (λ variables result kinds at place is other same slot most first does.
     does_field most kinds program at.lawful variables slot place first c.args.self.now c.args.behind
     (subst (λ (type : PasType). Does most kinds kinds (IsBehind program variables slot type)
     (place_at program most place) first c.args.self.now (Ok c.args.behind)) (sym same) does) c.in-Field.number
@@ -642,7 +683,8 @@ behind_part-returns-in-Field-clause-cause g t c =
     (sym c.behind_fields.ensures.quiet) refl
 
 pub behind_elements-returns-in_err-found-clause-does : goal.behind_elements-returns-in_err-found-clause-does
-behind_elements-returns-in_err-found-clause-does g t c of_whole variables result kinds at place is same slot most first
+behind_elements-returns-in_err-found-clause-does g t c of_whole variables result kinds at place is other same slot
+    most first
     does =
     let program = program_view c.args.scene.program.now in
     let range = range_view c.args.range in
@@ -658,7 +700,8 @@ behind_elements-returns-in_err-found-clause-does g t c of_whole variables result
     (c.in_err-found.ensures.does variables result kinds at (is.1, is.3) most))
 
 pub behind_elements-returns-in_err-number-clause-does : goal.behind_elements-returns-in_err-number-clause-does
-behind_elements-returns-in_err-number-clause-does g t c of_whole variables result kinds at place is same slot most first
+behind_elements-returns-in_err-number-clause-does g t c of_whole variables result kinds at place is other same slot
+    most first
     does =
     let program = program_view c.args.scene.program.now in
     let range = range_view c.args.range in
@@ -678,7 +721,7 @@ behind_elements-returns-in_err-number-clause-does g t c of_whole variables resul
     c.in_err-number.ensures.number))
 
 pub behind_elements-returns-clause-does : goal.behind_elements-returns-clause-does
-behind_elements-returns-clause-does g t c of_whole variables result kinds at place is same slot most first does =
+behind_elements-returns-clause-does g t c of_whole variables result kinds at place is other same slot most first does =
     let program = program_view c.args.scene.program.now in
     let range = range_view c.args.range in
     let type = type_view c.args.of_element in

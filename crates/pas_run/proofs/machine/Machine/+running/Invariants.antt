@@ -1,9 +1,9 @@
-use Rattle.std.proofs.Common.{ℕ, ◌+◌, ◌*◌, ◌≡◌, List, Option, Ok, map, take}
+use Rattle.std.proofs.Common.{ℕ, ◌+◌, ◌*◌, ◌≡◌, false, List, Option, Ok, map, take}
 use Rattle.pas_syntax.specs.Views.{in_turn}
 use Rattle.pas_typed.specs.Types.{PasType}
 use Rattle.pas_typed.specs.Typed as typed
 use Rattle.pas_typed.specs.Typed.{Variable, Place}
-use Rattle.pas_typed.specs.TypeOf.{type_of_place}
+use Rattle.pas_typed.specs.TypeOf.{type_of_place, is_buffer}
 use Rattle.pas_typed.specs.TypeViews.{type_view}
 use Rattle.pas_typed.specs.TypedViews.{slot_view, part_view, place_view, program_view}
 use Rattle.pas_typed.specs.Lawful.{IsLawfulPlace}
@@ -75,10 +75,11 @@ decreases-behind_elements g l = left l.levels + 1
 abbrev pub invariant-part_at-loop-part : goal.invariant-part_at-loop-part
 invariant-part_at-loop-part g l =
     let program = program_view l.scene.program.now in
-    let so_far : Place = in_turn (typed.slot (slot_view l.place.slot)) (map part_view (take l.part-index l.part-items)) in
+    let so_far : Place = in_turn (typed.slot (slot_view l.place.slot)) (map part_view (take l.part-index
+    l.part-items)) in
     (type_of_place so_far ≡ type_view l.whole)
     × (failures_of l.self.files ≡ failures_of l.fn.self.files)
-    × ((variables : List Variable) (result' : Option PasType) (kinds : Kinds)
+    × (is_buffer (place_view l.place) ≡ false → (variables : List Variable) (result' : Option PasType) (kinds : Kinds)
     → IsScene l.scene variables result' kinds → IsLawfulPlace program variables (place_view l.place) → (most : ℕ)
     → Does most kinds kinds (IsBehind program variables l.place.slot (type_of_place so_far))
     (place_at program most so_far) l.fn.self l.self (Ok l.behind))

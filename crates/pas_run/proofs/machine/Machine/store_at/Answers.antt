@@ -19,7 +19,8 @@ returns-in-Part-clause-does g c variables result kinds at place is most =
     c.args.self.now c.store_part.new.self c.store_part.result) c.in-Part.slot c.in-Part.behind place
     (subst (λ (spot : CodeSpot). IsSpot program variables type spot place) c.in-Part.is is)
     (λ path slot_is leads ordinal.
-    subst (λ number. Does most kinds kinds Any (store_at program.types type (part (slot_view c.in-Part.slot) path) (holds number))
+    subst (λ number. Does most kinds kinds Any (store_at program.types type (part (slot_view c.in-Part.slot) path)
+    (holds number))
     c.args.self.now c.store_part.new.self c.store_part.result) (to_z-of_z c.ranges.number)
     (c.store_part.ensures.does variables result kinds at slot_is path leads most))
 
@@ -32,6 +33,7 @@ returns-in-Window-clause-does g c variables result kinds at place is most =
     c.args.self.now c.store_window.new.self c.store_window.result) c.in-Window.slot c.in-Window.component place
     (subst (λ (spot : CodeSpot). IsSpot program variables type spot place) c.in-Window.is is)
     (λ file_is.
-    subst (λ number. Does most kinds kinds Any (store_at program.types type (window (slot_view c.in-Window.slot) (type_view c.in-Window.component)) (holds number))
+    subst (λ number. Does most kinds kinds Any (store_at program.types type (window (slot_view c.in-Window.slot)
+    (type_view c.in-Window.component)) (holds number))
     c.args.self.now c.store_window.new.self c.store_window.result) (to_z-of_z c.ranges.number)
     (c.store_window.ensures.does variables result kinds at file_is type most))

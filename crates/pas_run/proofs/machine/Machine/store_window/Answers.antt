@@ -34,6 +34,7 @@ returns-clause-does g c variables result kinds at is type most =
     let component = type_view c.args.component in
     does_set table type component slot most kinds (holds c.args.number) c.args.self.now c.in_ok-byte.byte
     (subst (λ number. Answers Same (then_answer (fits table component (holds number)) (byte_of OUT_OF_RANGE))
-    (Ok c.in_ok-byte.byte)) (to_z-of_z c.ranges.number) c.in_ok-byte.ensures.byte) c.buffer_set.new.self c.in_ok-file.file c.buffer_set.result
+    (Ok c.in_ok-byte.byte)) (to_z-of_z c.ranges.number) c.in_ok-byte.ensures.byte) c.buffer_set.new.self
+    c.in_ok-file.file c.buffer_set.result
     (does_question most kinds Same (file_of slot) c.args.self.now _
     (c.in_ok-file.ensures.file variables result kinds at is)) (c.buffer_set.ensures.does most kinds)
