@@ -1,4 +1,4 @@
-use Rattle.std.proofs.Common.{Option, Some, None, ◌≡◌, List, map, take, sum_by, sym, ap, ◌∙◌}
+use Rattle.std.proofs.Common.{Some, None, ◌≡◌, List, map, take, sum_by, sym, ap, ◌∙◌}
 use Rattle.std.proofs.lemmas.Option.{same_Some}
 use Rattle.pas_typed.specs.Types.{Field, cells_of}
 use Rattle.pas_typed.specs.TypeViews.{field_view, counted}
