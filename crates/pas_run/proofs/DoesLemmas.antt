@@ -236,14 +236,3 @@ pub quiet_early : {T : Type 0} (found : List KeptFile) (why : Stop) (result : Re
 quiet_early found why result is quiet =
     subst (λ failed. CountFailures failed found found)
     (sym (ap is_port_failed (is.1 ∙ ap Err is.2) ∙ quiet)) refl
-
--- an answer is no failed call of a port
-pub answers_quiet : {A T : Type 0} (Is : T → A → Type 0) (answer : Answer A) (result : Result T Stop)
-    → Answers Is answer result → is_port_failed result ≡ false
-answers_quiet Is answer (Ok found) is = refl
-answers_quiet Is answer (Err (stop.Wrong kind)) is = refl
-answers_quiet Is answer (Err (stop.Halted status)) is = absurd is
-answers_quiet Is answer (Err stop.Going) is = absurd is
-answers_quiet Is answer (Err stop.TooDeep) is = absurd is
-answers_quiet Is answer (Err stop.PortFailed) is = absurd is
-answers_quiet Is answer (Err stop.OutOfMemory) is = absurd is

@@ -1,5 +1,5 @@
 -- Operands over a machine: values one after another, each behind its check, and what is worked out of them.
-use Rattle.std.proofs.Common.{◌≡◌, ℕ, ℤ, List, refl, sym, ap, ◌∙◌, subst, Bool, Result, Ok, Err}
+use Rattle.std.proofs.Common.{ℕ, ℤ, refl, sym, ap, subst, Bool, Result, Ok, Err}
 use Rattle.pas_meaning.specs.Answers.{Answer}
 use Rattle.pas_meaning.specs.Outcome.{Doing, pure, ◌>>=◌, answered}
 use Rattle.pas_meaning.specs.Store.{Datum, holds, Store, number_of}
@@ -10,8 +10,8 @@ use Rattle.pas_meaning.proofs.OnwardLemmas.{goes_bind, goes_pure, goes_answered}
 use Rattle.pas_meaning.proofs.GoesLemmas.{goes_operand, goes_operand_alone}
 use Rattle.pas_run.specs.declared.ends.Stop.{Stop}
 use Rattle.pas_run.specs.declared.ends.Stop.TheVariants as stop
-use Rattle.pas_run.specs.inner.MachineState.{KeptFile, MachineState, CountFailures}
-use Rattle.pas_run.specs.inner.Doings.{Same, IsNumber, Does, Answers, is_failure, is_port_failed}
+use Rattle.pas_run.specs.inner.MachineState.{MachineState}
+use Rattle.pas_run.specs.inner.Doings.{Same, IsNumber, Does, Answers}
 use Rattle.pas_run.specs.inner.Evaluating.{once, twice}
 use Rattle.pas_run.proofs.DoesLemmas.{does_stop, does_next, does_pure, does_answered}
 
@@ -19,13 +19,6 @@ use Rattle.pas_run.proofs.DoesLemmas.{does_stop, does_next, does_pure, does_answ
 pub does_no_memory : {A T : Type 0} (most : ℕ) (kinds later : Kinds) (Is : T → A → Type 0) (doing : Doing Store A)
     (before now : MachineState) → Does most kinds later Is doing before now (Err stop.OutOfMemory)
 does_no_memory most kinds later Is doing before now = record { each = λ ports run stands within. tt }
-
--- why calls failed before an early return
-pub cause_early : {T : Type 0} (first now : List KeptFile) (why : Stop) (result : Result T Stop)
-    → ((stopped : Stop) × (result ≡ Err stopped) × (stopped ≡ why)) → CountFailures (is_failure why) first now
-    → CountFailures (is_port_failed result) first now
-cause_early first now why result is cause =
-    subst (λ failed. CountFailures failed first now) (sym (ap is_port_failed (is.1 ∙ ap Err is.2))) cause
 
 -- an operand behind its check
 module _ {A T : Type 0} (most : ℕ) (kinds : Kinds) (Is : T → A → Type 0) (check : Datum → Answer A)
