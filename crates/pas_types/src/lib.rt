@@ -6,6 +6,7 @@ mod constants;
 mod declarations;
 mod expressions;
 mod functions;
+mod globals;
 mod judged;
 mod labels;
 mod limits;
