@@ -392,14 +392,15 @@ counted_type outer cells name (Some found) made h =
     (counted_longer outer cells found.table made.0 h)
 
 -- how many cells variables of one type have
-variables_together : (table : Table) (found : PasType) (spellings : List (List ℕ))
-    → cells_together table (variables_of declared found spellings) ≡ length spellings * cells_of table found
-variables_together table found [] = omega arith
-variables_together table found (name ∷ spellings) =
+variables_together : (table : Table) (mode : Mode) (found : PasType) (spellings : List (List ℕ))
+    → cells_together table (variables_of mode found spellings)
+    ≡ length spellings * cells_of_variable table mode found
+variables_together table mode found [] = omega arith
+variables_together table mode found (name ∷ spellings) =
     sum_by-cons (λ (each : Variable). cells_of_variable table each.mode each.type)
-    (record { name = name; mode = declared; type = found }) (variables_of declared found spellings)
-    ∙ (ap (λ (n : ℕ). cells_of table found + n) (variables_together table found spellings)
-    ∙ more (length spellings) (cells_of table found))
+    (record { name = name; mode = mode; type = found }) (variables_of mode found spellings)
+    ∙ (ap (λ (n : ℕ). cells_of_variable table mode found + n) (variables_together table mode found spellings)
+    ∙ more (length spellings) (cells_of_variable table mode found))
   where
     more : (n c : ℕ) → c + n * c ≡ suc n * c
     more n c = omega arith
@@ -417,12 +418,21 @@ counted_sum c n e cells each is also =
     counted_once : (a b : ℕ) → counted (a + counted b) ≡ counted (a + b)
     counted_once a b = omega arith
 
+pub together_by : (table : Table) (variables : List Variable) (mode : Mode) (found : PasType)
+    (spellings : List (List ℕ)) (cells each : ℕ) → cells ≡ counted (cells_together table variables)
+    → counted (cells_of_variable table mode found) ≡ each
+    → counted (cells_together table (variables ++ variables_of mode found spellings))
+    ≡ counted (cells + length spellings * each)
+together_by table variables mode found spellings cells each is also =
+    ap counted (sum_by-append (λ (each : Variable). cells_of_variable table each.mode each.type) variables
+    (variables_of mode found spellings)
+    ∙ ap (λ (n : ℕ). cells_together table variables + n) (variables_together table mode found spellings))
+    ∙ counted_sum (cells_together table variables) (length spellings) (cells_of_variable table mode found) cells each
+    is also
+
 pub together_with : (table : Table) (globals : List Variable) (found : PasType) (spellings : List (List ℕ))
     (cells each : ℕ) → cells ≡ counted (cells_together table globals) → counted (cells_of table found) ≡ each
     → counted (cells_together table (globals ++ variables_of declared found spellings))
     ≡ counted (cells + length spellings * each)
 together_with table globals found spellings cells each is also =
-    ap counted (sum_by-append (λ (each : Variable). cells_of_variable table each.mode each.type) globals
-    (variables_of declared found spellings)
-    ∙ ap (λ (n : ℕ). cells_together table globals + n) (variables_together table found spellings))
-    ∙ counted_sum (cells_together table globals) (length spellings) (cells_of table found) cells each is also
+    together_by table globals declared found spellings cells each is also

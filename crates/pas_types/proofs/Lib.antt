@@ -52,6 +52,7 @@ pub mod DeclaredLemmas
 pub mod ConstantRowLemmas
 pub mod CountedLemmas
 pub mod GlobalLemmas
+pub mod LocalLemmas
 pub mod GlobalRowLemmas
 pub mod AddedLemmas
 pub mod RowLemmas

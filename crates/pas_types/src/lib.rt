@@ -10,6 +10,7 @@ mod globals;
 mod judged;
 mod labels;
 mod limits;
+mod locals;
 mod name_sets;
 mod names;
 mod new_names;
