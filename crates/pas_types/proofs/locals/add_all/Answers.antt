@@ -1,4 +1,4 @@
-use Rattle.std.proofs.Common.{◌≡◌, sym, ap, ◌∙◌, ℕ, List, get_or, Option}
+use Rattle.std.proofs.Common.{ap, ◌∙◌, List, get_or}
 use Rattle.std.specs.Prelude.{option_map}
 use Rattle.pas_syntax.specs.declared.tree.Ident.{Ident as CodeIdent}
 use Rattle.pas_syntax.specs.declared.tree.Behind.{Behind as CodeBehind}

@@ -1,4 +1,4 @@
-use Rattle.std.proofs.Common.{◌≡◌, sym, ap, subst, ◌∙◌, ℕ, List, Ok, Err}
+use Rattle.std.proofs.Common.{sym, subst, ◌∙◌, ℕ, List, Ok, Err}
 use Rattle.std.proofs.lemmas.Result.{err_from_is_err_and}
 use Rattle.pas_syntax.specs.Views.{ident_in, separated_in}
 use Rattle.pas_typed.specs.declared.types.PasType.{PasType as CodePasType}

@@ -1,4 +1,4 @@
-use Rattle.std.proofs.Common.{◌≡◌, sym, ap, ◌∙◌, ℕ, ◌+◌, ◌*◌, List, map, length}
+use Rattle.std.proofs.Common.{sym, ap, ◌∙◌, ℕ, ◌+◌, ◌*◌, map, length}
 use Rattle.pas_syntax.specs.Views.{ident_in, separated_in}
 use Rattle.pas_typed.specs.TypeViews.{table_view, type_view, counted}
 use Rattle.pas_typed.specs.TypedViews.{mode_view, variable_view}

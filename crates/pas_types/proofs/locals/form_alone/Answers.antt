@@ -1,4 +1,4 @@
-use Rattle.std.proofs.Common.{◌≡◌, sym, subst, Result, refl}
+use Rattle.std.proofs.Common.{sym, subst, Result, refl}
 use Rattle.pas_syntax.specs.Words.{type_words}
 use Rattle.pas_syntax.specs.ProgramViews.{type_in}
 use Rattle.pas_typed.specs.declared.types.PasType.{PasType as CodePasType}
