@@ -34,3 +34,4 @@ pub mod ExprCalls
 pub mod EntityCalls
 pub mod ExpressionSeen
 pub mod SelectLemmas
+pub mod TransferLemmas
