@@ -35,3 +35,4 @@ pub mod EntityCalls
 pub mod ExpressionSeen
 pub mod SelectLemmas
 pub mod TransferLemmas
+pub mod PrintLemmas

@@ -1,9 +1,8 @@
 -- Reading and writing: one item.
-use Rattle.std.proofs.Common.{◌≡◌, refl, sym, ap, subst, ◌∙◌, ℕ, Bool, true, false, List, [], ◌∷◌, ◌++◌, length}
-use Rattle.std.proofs.Common.{Option, Some, None, Result, Ok, Err}
+use Rattle.std.proofs.Common.{◌≡◌, refl, sym, ap, subst, ◌∙◌, ℕ, Bool, true, false, List, [], ◌∷◌, ◌++◌}
+use Rattle.std.proofs.Common.{Option, Some, None, Ok, Err}
 use Rattle.std.specs.Prelude.{◌&&◌, not, is_some, slice_get, if◌then◌else◌, option_and_then}
 use Rattle.std.proofs.lemmas.List.{append-nil}
-use Rattle.std.proofs.lemmas.Option.{none-some}
 use Rattle.wb_base.specs.declared.faults.TheConstants.{WRONG_TYPE, READING_NUMBERS}
 use Rattle.pas_tokens.specs.Cutting.{Wrong, wrong}
 use Rattle.pas_tokens.specs.Tokens.{fault_in}
@@ -11,7 +10,7 @@ use Rattle.pas_syntax.specs.Parse.{left_out}
 use Rattle.pas_syntax.specs.Tree as tree
 use Rattle.pas_syntax.specs.Tree.{Behind, Expr}
 use Rattle.pas_tokens.specs.declared.kinds.Kind.TheVariants as k
-use Rattle.pas_syntax.specs.Words.{Word, at, words_if, width_words, expr_words, argument_words}
+use Rattle.pas_syntax.specs.Words.{Word, at, words_if, width_words, expr_words}
 use Rattle.pas_typed.specs.declared.typed.Passed as code_passed
 use Rattle.pas_typed.specs.Types.{PasType, Table, integer, char, whole, text, row, same_type, component_of, is_of}
 use Rattle.pas_typed.specs.Types.{are_compatible}
@@ -21,19 +20,19 @@ use Rattle.pas_typed.specs.TypeOf.{type_of, type_of_place}
 use Rattle.pas_typed.specs.TypedViews.{passed_view, passed_views}
 use Rattle.pas_types.specs.declared.stop.Stop.{Stop}
 use Rattle.pas_types.specs.declared.stop.Stop.TheVariants as stop
-use Rattle.pas_types.specs.Marks.{Marks, no_token, shows, first_of, followed, joined, unless, Judged, judged, both, checked}
+use Rattle.pas_types.specs.Marks.{Marks, shows, first_of, followed, joined, unless, Judged, judged, both, checked}
 use Rattle.pas_types.specs.Marks.{first_fault}
 use Rattle.pas_types.specs.Scopes.{Scopes}
 use Rattle.pas_types.specs.Expressions.{Demand, bare, place_in, value_of}
-use Rattle.pas_types.specs.Calls.{is_call_by_name, read_demand, read_from_text, read_component, is_text, no_width}
+use Rattle.pas_types.specs.Calls.{is_call_by_name, read_demand, read_from_text, read_component, no_width}
 use Rattle.pas_types.specs.Calls.{width_of, actual_of, read_item}
-use Rattle.pas_types.specs.inner.Ends.{shown_behind, lower_of, Ends}
+use Rattle.pas_types.specs.inner.Ends.{shown_behind, lower_of}
 use Rattle.pas_types.specs.inner.Stopping.{shown_in}
 use Rattle.pas_types.specs.inner.Answers.{Ending, EndsAs, StandsAs, FailsBy, noted_end, stands_by}
 use Rattle.pas_types.specs.inner.Answers.{Shows}
 use Rattle.pas_types.specs.inner.Transfers.{width_refused, without_width_behind, place_by}
 use Rattle.pas_types.proofs.AsMany.{AsMany, all, and_then, next_word}
-use Rattle.pas_types.proofs.EndLemmas.{behind_quiet, quiet_many, end_quiet, checked_refused}
+use Rattle.pas_types.proofs.EndLemmas.{behind_quiet, quiet_many, checked_refused}
 use Rattle.pas_types.proofs.PartLemmas.{alone}
 use Rattle.pas_types.proofs.AnswerLemmas.{checked_ends, checked_fails, checked_stands, fails_at, stands_lawful, stops_fails}
 use Rattle.pas_types.proofs.ArgumentLemmas.{stands_quiet}

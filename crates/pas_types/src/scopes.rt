@@ -160,10 +160,7 @@ impl<'p> Scopes<'p> {
     {
         match self.entity_of(name) {
             Some(Entity::Variable(slot))
-                if slot.home == Home::Global && slot.pas_type.is(PasType::Text) =>
-            {
-                Some(slot)
-            },
+                if slot.home == Home::Global && slot.pas_type.is(PasType::Text) => { Some(slot) },
             _ => None,
         }
     }

@@ -1,8 +1,8 @@
 //! Reading and writing (ISO 7185, 6.9, in this project's profile).
-ghost use Rattle.std.specs.Prelude.{◌≡◌, ◌∷◌, ◌++◌, [], ℕ, List, Bool, true, false, not, is_some, ◌&&◌, ◌||◌, map, Option, Some, option_map};
+ghost use Rattle.std.specs.Prelude.{◌≡◌, ◌∷◌, [], ℕ, List, true, false, not, is_some, ◌&&◌, ◌||◌, map, Option, Some, None, option_map};
 ghost use Rattle.pas_syntax.specs.Views.{expr_in};
-ghost use Rattle.pas_syntax.specs.ProgramViews.{argument_in, arguments_in};
-ghost use Rattle.pas_syntax.specs.Words.{Word, expr_words, argument_words, arguments_words, words_if, width_words};
+ghost use Rattle.pas_syntax.specs.ProgramViews.{argument_in};
+ghost use Rattle.pas_syntax.specs.Words.{Word, expr_words, argument_words};
 ghost use Rattle.pas_typed.specs.Types.{component_of};
 ghost use Rattle.pas_typed.specs.Types as spec_type;
 ghost use Rattle.pas_typed.specs.Typed.{Value as SpecValue, Place as SpecPlace};
@@ -13,7 +13,7 @@ ghost use Rattle.pas_types.specs.Calls as spec;
 ghost use Rattle.pas_types.specs.Expressions as spec_value;
 ghost use Rattle.pas_types.specs.Marks.{checked, Judged as SpecJudged};
 ghost use Rattle.pas_types.specs.ScopeViews.{scopes_view, IsClear};
-ghost use Rattle.pas_types.specs.inner.Answers.{end_in, EndsAs, StandsAs, Stands, Settles};
+ghost use Rattle.pas_types.specs.inner.Answers.{end_in, EndsAs, Stands, Settles};
 ghost use Rattle.pas_types.specs.inner.Transfers.{reading, writing, extent_view, Makes, MeansFile, wrongs_in};
 ghost use Rattle.pas_types.specs.inner.Transfers.{place_by, width_refused};
 
@@ -23,7 +23,7 @@ use crate::judged::Judged;
 use crate::scopes::Scopes;
 use crate::stop::{Stop, Wrong, fault};
 use crate::variables::whole;
-use pas_syntax::tree::{Argument, Arguments, Expr};
+use pas_syntax::tree::{Argument, Expr};
 use pas_typed::typed::{Item, Passed, Place, Slot, Statement, Value};
 use pas_typed::types::{Base, PasType};
 use sqlite_items::{Boxed, Items};
@@ -47,11 +47,7 @@ fn standard_only(scopes: &Scopes<'_>, slot: Option<Slot>, line: u32) -> Result<P
 }
 
 // What `read` or `readln` without arguments means.
-pub(crate) fn read_alone(
-    scopes: &Scopes<'_>,
-    line: u32,
-    extent: Extent,
-) -> Result<Statement, Stop>
+pub(crate) fn read_alone(scopes: &Scopes<'_>, line: u32, extent: Extent) -> Result<Statement, Stop>
     ensures { (word : Word) → word.token.line ≡ line → Settles (word ∷ [])
         (spec.procedure_alone (scopes_view scopes.now) (reading extent)) (statement_view scopes.now.spellings.now)
         result }
@@ -64,11 +60,7 @@ pub(crate) fn read_alone(
 }
 
 // What `write` or `writeln` without arguments means.
-pub(crate) fn write_alone(
-    scopes: &Scopes<'_>,
-    line: u32,
-    extent: Extent,
-) -> Result<Statement, Stop>
+pub(crate) fn write_alone(scopes: &Scopes<'_>, line: u32, extent: Extent) -> Result<Statement, Stop>
     ensures { (word : Word) → word.token.line ≡ line → Settles (word ∷ [])
         (spec.procedure_alone (scopes_view scopes.now) (writing extent)) (statement_view scopes.now.spellings.now)
         result }
@@ -81,22 +73,6 @@ pub(crate) fn write_alone(
             Ok(Statement::WritesLine(file, Items::new(scopes.alloc)))
         }
     }
-}
-
-// What `read` or `readln` with arguments means.
-pub(crate) fn read_call(
-    scopes: &Scopes<'_>,
-    line: u32,
-    extent: Extent,
-    arguments: &Arguments,
-) -> Result<Statement, Stop>
-    ensures { IsClear (scopes_view scopes.now) → (n : ℕ) (word : Word) → word.token.line ≡ line → Settles
-        (word ∷ arguments_words n (arguments_in scopes.now.spellings.now arguments.now))
-        (spec.procedure_of (scopes_view scopes.now) (reading extent) (spec.actuals_of (scopes_view scopes.now)
-        (arguments_in scopes.now.spellings.now arguments.now).items)) (statement_view scopes.now.spellings.now)
-        result }
-{
-    Err(Stop::OutOfMemory)
 }
 
 // Reading from a file into places.
@@ -117,11 +93,7 @@ fn reads(
 }
 
 // The place that is read from a file of this type.
-fn read_item(
-    scopes: &Scopes<'_>,
-    file: PasType,
-    argument: &Argument,
-) -> Result<Judged<Place>, Stop>
+fn read_item(scopes: &Scopes<'_>, file: PasType, argument: &Argument) -> Result<Judged<Place>, Stop>
     ensures { IsClear (scopes_view scopes.now) → (n : ℕ) (place : SpecPlace) → type_of_place place ≡ type_view file
         → is_some (component_of (scopes_view scopes.now).outer.types (type_view file)) ≡ true
         → Stands (argument_words n (argument_in scopes.now.spellings.now argument.now))
@@ -309,6 +281,31 @@ fn is_printed(scopes: &Scopes<'_>, pas_type: PasType) -> bool
     scopes.types.is_of(Base::Integer, pas_type) || scopes.types.is_of(Base::Char, pas_type)
 }
 
+// What an integer or a char that is written on a text means, with its width or without.
+fn printed_item(scopes: &Scopes<'_>, argument: &Argument) -> Result<Judged<Item>, Stop>
+    ensures { IsClear (scopes_view scopes.now) → (n : ℕ)
+        → Stands (argument_words n (argument_in scopes.now.spellings.now argument.now))
+        (spec.item_on_text (scopes_view scopes.now).outer.types (spec.actual_of (scopes_view scopes.now)
+        (argument_in scopes.now.spellings.now argument.now)) None) (item_view scopes.now.spellings.now) result }
+{
+    let found = value_of(scopes, &argument.value)?;
+    let found = printed_only(scopes, found)?;
+    match &argument.width {
+        Some(width) => {
+            let value = found.before(width.line)?;
+            let given = width_of(scopes, &width.item)?;
+            Ok(Judged {
+                value: item_as(scopes, value, Some(given.value)),
+                end: given.end,
+            })
+        }
+        None => Ok(Judged {
+            value: item_as(scopes, found.value, None),
+            end: found.end,
+        }),
+    }
+}
+
 // What the width of an item means.
 fn width_of(scopes: &Scopes<'_>, width: &Expr) -> Result<Judged<Value>, Stop>
     ensures { IsClear (scopes_view scopes.now) → (n : ℕ)
@@ -332,20 +329,4 @@ fn item_as(scopes: &Scopes<'_>, value: Value, width: Option<Value>) -> Item
     } else {
         Item::Number(value, width)
     }
-}
-
-// What `write` or `writeln` with arguments means.
-pub(crate) fn write_call(
-    scopes: &Scopes<'_>,
-    line: u32,
-    extent: Extent,
-    arguments: &Arguments,
-) -> Result<Statement, Stop>
-    ensures { IsClear (scopes_view scopes.now) → (n : ℕ) (word : Word) → word.token.line ≡ line → Settles
-        (word ∷ arguments_words n (arguments_in scopes.now.spellings.now arguments.now))
-        (spec.procedure_of (scopes_view scopes.now) (writing extent) (spec.actuals_of (scopes_view scopes.now)
-        (arguments_in scopes.now.spellings.now arguments.now).items)) (statement_view scopes.now.spellings.now)
-        result }
-{
-    Err(Stop::OutOfMemory)
 }

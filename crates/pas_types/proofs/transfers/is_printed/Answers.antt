@@ -1,6 +1,6 @@
-use Rattle.std.proofs.Common.{◌≡◌, sym, ap, ◌∙◌, Bool, true, false}
+use Rattle.std.proofs.Common.{sym, ap, ◌∙◌, Bool}
 use Rattle.std.specs.Prelude.{◌||◌}
-use Rattle.pas_typed.specs.Types.{integer, char, is_of}
+use Rattle.pas_typed.specs.Types.{char, is_of}
 use Rattle.pas_typed.specs.TypeViews.{type_view, table_view}
 use Rattle.pas_types.proofs.transfers.is_printed.Goals as goal
 

@@ -1,14 +1,14 @@
-use Rattle.std.proofs.Common.{◌≡◌, sym, ap, subst, ◌∙◌, Some, List, Result}
+use Rattle.std.proofs.Common.{sym, subst, Some, List}
 use Rattle.std.proofs.lemmas.Result.{err_from_is_err_and}
 use Rattle.pas_syntax.specs.ProgramViews.{argument_in}
 use Rattle.pas_syntax.specs.Words.{Word, expr_words}
 use Rattle.pas_typed.specs.Typed.{Value, Place}
 use Rattle.pas_typed.specs.TypedViews.{place_view}
-use Rattle.pas_types.specs.Marks.{Marks, Judged, checked}
-use Rattle.pas_types.specs.Calls.{read_demand, width_of, read_item, actual_of}
+use Rattle.pas_types.specs.Marks.{Judged, checked}
+use Rattle.pas_types.specs.Calls.{read_demand}
 use Rattle.pas_types.specs.Expressions.{value_of}
 use Rattle.pas_types.specs.ScopeViews.{scopes_view}
-use Rattle.pas_types.specs.inner.Answers.{end_in, StandsAs, FailsBy, Stands}
+use Rattle.pas_types.specs.inner.Answers.{end_in, StandsAs, Stands}
 use Rattle.pas_types.specs.inner.Transfers.{place_by}
 use Rattle.pas_types.proofs.AnswerLemmas.{stands_stop, stops_fails, checked_stops_by}
 use Rattle.pas_types.proofs.TransferLemmas.{widened, widened_words, widened_fails, width_fails, width_stands, read_seen}

@@ -1,9 +1,7 @@
-use Rattle.std.proofs.Common.{◌≡◌, sym, ap, subst, ◌∙◌, [], ◌∷◌, Some, List}
-use Rattle.std.specs.Prelude.{is_some}
+use Rattle.std.proofs.Common.{◌≡◌, sym, ap, subst, ◌∙◌, [], ◌∷◌, Some}
 use Rattle.std.proofs.lemmas.Result.{err_from_is_err_and}
-use Rattle.pas_tokens.specs.Cutting.{Wrong}
 use Rattle.pas_typed.specs.Types.{Table}
-use Rattle.pas_typed.specs.TypeViews.{type_view, table_view}
+use Rattle.pas_typed.specs.TypeViews.{table_view}
 use Rattle.pas_typed.specs.TypedViews.{value_view, place_view}
 use Rattle.pas_types.specs.declared.stop.Stop.{Stop}
 use Rattle.pas_types.specs.Calls.{read_demand}
@@ -11,7 +9,7 @@ use Rattle.pas_types.specs.inner.Answers.{end_in, FailsBy}
 use Rattle.pas_types.specs.inner.Stopping.{wrong_in}
 use Rattle.pas_types.specs.inner.Transfers.{place_by, wrongs_in}
 use Rattle.pas_types.proofs.AnswerLemmas.{stands_stop}
-use Rattle.pas_types.proofs.TransferLemmas.{place_refused, place_fails, place_stands}
+use Rattle.pas_types.proofs.TransferLemmas.{place_refused, place_fails}
 use Rattle.pas_types.proofs.transfers.read_only.Goals as goal
 
 pub returns-in-Some : goal.returns-in-Some

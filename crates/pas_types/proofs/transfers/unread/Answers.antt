@@ -1,4 +1,4 @@
-use Rattle.std.proofs.Common.{◌≡◌, sym, ap, ◌∙◌, Bool, true, false, List, [], ◌∷◌}
+use Rattle.std.proofs.Common.{ap, ◌∙◌, Bool, false, List, [], ◌∷◌}
 use Rattle.std.specs.Prelude.{if◌then◌else◌}
 use Rattle.wb_base.specs.declared.faults.TheConstants.{WRONG_TYPE, READING_NUMBERS}
 use Rattle.pas_tokens.specs.Cutting.{Wrong, wrong}
@@ -11,7 +11,6 @@ use Rattle.pas_types.proofs.transfers.unread.Goals as goal
 
 abbrev wrongs : Bool → Bool → List Wrong
 wrongs left read = if left then left_out READING_NUMBERS ∷ [] else unless read (wrong WRONG_TYPE)
-
 
 pub returns-then-is_read : goal.returns-then-is_read
 returns-then-is_read c place at some =
