@@ -56,7 +56,8 @@ module _ (scopes : Scopes) (n : ℕ) (words : List Word) (part : Judged Value) w
 
     given_many : AsMany more (joined (given.marks ∷ []))
     given_many =
-        all given.marks (checked_many (only integer table) (value_of scopes width.item) (value_many scopes n 0 width.item))
+        all given.marks
+        (checked_many (only integer table) (value_of scopes width.item) (value_many scopes n 0 width.item))
 
     behind_many : AsMany (colon ∷ more) (joined (behind ∷ []))
     behind_many = all behind (next_word colon [] (joined (given.marks ∷ [])) given_many)

@@ -34,7 +34,8 @@ use Rattle.pas_types.specs.inner.Transfers.{width_refused, without_width_behind,
 use Rattle.pas_types.proofs.AsMany.{AsMany, all, and_then, next_word}
 use Rattle.pas_types.proofs.EndLemmas.{behind_quiet, quiet_many, checked_refused}
 use Rattle.pas_types.proofs.PartLemmas.{alone}
-use Rattle.pas_types.proofs.AnswerLemmas.{checked_ends, checked_fails, checked_stands, fails_at, stands_lawful, stops_fails}
+use Rattle.pas_types.proofs.AnswerLemmas.{checked_ends, checked_fails, checked_stands, fails_at}
+use Rattle.pas_types.proofs.AnswerLemmas.{stands_lawful, stops_fails}
 use Rattle.pas_types.proofs.ArgumentLemmas.{stands_quiet}
 use Rattle.pas_types.proofs.SettleLemmas.{shows_front}
 use Rattle.pas_types.proofs.ExpressionsAsMany.{value_many}
@@ -65,7 +66,8 @@ module _ (table : Table) (value : Value) where
       if same_type type text then read_from_text table value
       else read_component table (component_of table type) value
 
-  by_number : (number read : Bool) → numbered ≡ number → (is_some (place_in value) && is_of char table (type_of value)) ≡ read
+  by_number : (number read : Bool) → numbered ≡ number
+      → (is_some (place_in value) && is_of char table (type_of value)) ≡ read
       → read_from_text table value ≡ if number then left_out READING_NUMBERS ∷ [] else unless read (wrong WRONG_TYPE)
   by_number number read is fit =
       ap (λ (n : Bool). if n then left_out READING_NUMBERS ∷ [] else unless (is_some (place_in value)
@@ -159,7 +161,8 @@ module _ (words : List Word) (demand : Demand) (part : Judged Value) (value othe
       (checked_stands words demand part value end WRONG_TYPE holds fine (is ∙ ap stands_by at) h))
 
 -- a width behind a part
-pub same_value : {A B : Type 0} (value : Option A) (nothing : B) → both (λ value nothing. value) value (Some nothing) ≡ value
+pub same_value : {A B : Type 0} (value : Option A) (nothing : B)
+    → both (λ value nothing. value) value (Some nothing) ≡ value
 same_value None nothing = refl
 same_value (Some value) nothing = refl
 
@@ -179,8 +182,8 @@ module _ {A : Type 0} (scopes : Scopes) (n : ℕ) (words : List Word) (part : Ju
       (all behind (width_many scopes n width)) h
   widened_fails width stop.Missing h = absurd h
 
-  colon_first : (line : ℕ) (word : Word) (more : List Word) (is_short : Bool) (behind : List Wrong) (tokens : List (List Wrong))
-      → behind ≡ shown_behind is_short
+  colon_first : (line : ℕ) (word : Word) (more : List Word) (is_short : Bool) (behind : List Wrong)
+      (tokens : List (List Wrong)) → behind ≡ shown_behind is_short
       → first_fault (word ∷ more) ((behind ++ wrong WRONG_TYPE ∷ []) ∷ tokens)
       ≡ Some (fault_in word.token.line (wrong WRONG_TYPE))
   colon_first line word more true behind tokens is =
@@ -205,7 +208,8 @@ module _ {A : Type 0} (scopes : Scopes) (n : ℕ) (words : List Word) (part : Ju
       (subst (λ (marks : Marks). Shows (words ++ colon ∷ more) (followed part.marks marks)
       (fault_in width.line (wrong WRONG_TYPE))) (sym (alone behind))
       record {
-        many = (and_then part.marks behind (record { same = quiet_many words part.marks.tokens quiet.still }) many).same;
+        many = (and_then part.marks behind
+            (record { same = quiet_many words part.marks.tokens quiet.still }) many).same;
         first = behind_quiet words (colon ∷ more) part.marks.tokens
             ((part.marks.behind ++ wrong WRONG_TYPE ∷ []) ∷ (first_of [] rest.behind rest.tokens).tokens) quiet.still
             ∙ colon_first width.line colon more end.is_short part.marks.behind

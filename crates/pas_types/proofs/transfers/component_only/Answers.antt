@@ -21,7 +21,8 @@ returns-in_err-stands c words part component is h =
     (err_from_is_err_and _ c.from_residual.ensures.1)
     (noted_fails words demand part (value_view c.args.found.value) (value_view c.noted-found.result.value)
     (end_in c.args.found.end) (end_in c.noted-found.result.end) c.takes-is_fit.result
-    (ap (λ (holds : Bool). unless holds (wrong WRONG_TYPE)) (ap (are_compatible table component) c.pas_type.ensures ∙ sym (c.takes-is_fit.ensures component is)))
+    (ap (λ (holds : Bool). unless holds (wrong WRONG_TYPE))
+    (ap (are_compatible table component) c.pas_type.ensures ∙ sym (c.takes-is_fit.ensures component is)))
     (ap value_view c.noted-found.ensures.value) c.noted-found.ensures.end h why c.in_err-stands.ensures)
 
 pub returns : goal.returns
@@ -30,5 +31,6 @@ returns c words part component is h =
     let demand = component_demand table (Some component) in
     noted_stands words demand part (value_view c.args.found.value) (value_view c.noted-found.result.value)
     (end_in c.args.found.end) (end_in c.noted-found.result.end) c.takes-is_fit.result
-    (ap (λ (holds : Bool). unless holds (wrong WRONG_TYPE)) (ap (are_compatible table component) c.pas_type.ensures ∙ sym (c.takes-is_fit.ensures component is)))
+    (ap (λ (holds : Bool). unless holds (wrong WRONG_TYPE))
+    (ap (are_compatible table component) c.pas_type.ensures ∙ sym (c.takes-is_fit.ensures component is)))
     (ap value_view c.noted-found.ensures.value) c.noted-found.ensures.end h c.in_ok-stands.ensures

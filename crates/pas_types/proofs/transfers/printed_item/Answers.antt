@@ -45,7 +45,8 @@ returns-in_err-found-2 c clear n =
     let part : Judged Value = checked demand value in
     let why = c.in_err-found-2.field-0.0 in
     stands_stop (printed_words scopes n words part argument.width) (printed scopes n words part argument.width)
-    (item_view spellings) why c.from_residual-in_err-found-2.result (err_from_is_err_and _ c.from_residual-in_err-found-2.ensures.1)
+    (item_view spellings) why c.from_residual-in_err-found-2.result
+    (err_from_is_err_and _ c.from_residual-in_err-found-2.ensures.1)
     (printed_fails scopes n words part argument.width why
     (c.in_err-found-2.ensures words value (c.in_ok-found.ensures clear n 0)))
 
@@ -67,7 +68,8 @@ returns-in_err-value-in-Some c clear n =
     (printed scopes n words part (if_there (behind_in (expr_in spellings)) given)) (item_view spellings)
     c.from_residual-in_err-value-in-Some.result) (sym c.in-Some.is)
     (stands_stop (printed_words scopes n words part (Some width)) (printed scopes n words part (Some width))
-    (item_view spellings) why c.from_residual-in_err-value-in-Some.result (err_from_is_err_and _ c.from_residual-in_err-value-in-Some.ensures.1)
+    (item_view spellings) why c.from_residual-in_err-value-in-Some.result
+    (err_from_is_err_and _ c.from_residual-in_err-value-in-Some.ensures.1)
     (printed_unsettled scopes n words part width (value_view found.value) (end_in found.end) why stands found.value
     c.in_err-value-in-Some.ensures))
 
@@ -92,7 +94,8 @@ returns-in_err-given-in-Some c clear n =
     (printed scopes n words part (if_there (behind_in (expr_in spellings)) given)) (item_view spellings)
     c.from_residual-in_err-given-in-Some.result) (sym c.in-Some.is)
     (stands_stop (printed_words scopes n words part (Some width)) (printed scopes n words part (Some width))
-    (item_view spellings) why c.from_residual-in_err-given-in-Some.result (err_from_is_err_and _ c.from_residual-in_err-given-in-Some.ensures.1)
+    (item_view spellings) why c.from_residual-in_err-given-in-Some.result
+    (err_from_is_err_and _ c.from_residual-in_err-given-in-Some.ensures.1)
     (printed_width scopes n words part width (value_view found.value) (end_in found.end) why stands settled.1
     (c.in_err-given-in-Some.ensures clear n)))
 
@@ -115,8 +118,8 @@ returns-in_ok-given-in-Some c clear n =
     let other = value_view given.value in
     subst (λ (w : Option (CodeBehind code_expr.Expr)).
     StandsAs (printed_words scopes n words part (if_there (behind_in (expr_in spellings)) w))
-    (printed scopes n words part (if_there (behind_in (expr_in spellings)) w)) (item_view spellings c.item_as.result)
-    (end_in given.end)) (sym c.in-Some.is)
+    (printed scopes n words part (if_there (behind_in (expr_in spellings)) w))
+    (item_view spellings c.item_as.result) (end_in given.end)) (sym c.in-Some.is)
     (subst (λ (item : Item). StandsAs (printed_words scopes n words part (Some width))
     (printed scopes n words part (Some width)) item (end_in given.end))
     (sym (c.item_as.ensures ∙ ap (λ (v : _). item_of scopes.outer.types (value_view v) (Some other)) settled.0))
@@ -136,8 +139,8 @@ returns-in-None c clear n =
     let stands = c.in_ok-found-2.ensures words value (c.in_ok-found.ensures clear n 0) in
     subst (λ (w : Option (CodeBehind code_expr.Expr)).
     StandsAs (printed_words scopes n words part (if_there (behind_in (expr_in spellings)) w))
-    (printed scopes n words part (if_there (behind_in (expr_in spellings)) w)) (item_view spellings c.item_as-in-None.result)
-    (end_in found.end)) (sym c.in-None.is)
+    (printed scopes n words part (if_there (behind_in (expr_in spellings)) w))
+    (item_view spellings c.item_as-in-None.result) (end_in found.end)) (sym c.in-None.is)
     (subst (λ (item : Item). StandsAs (printed_words scopes n words part None) (printed scopes n words part None) item
     (end_in found.end)) (sym c.item_as-in-None.ensures)
     (printed_alone scopes n words part (value_view found.value) (end_in found.end) stands))

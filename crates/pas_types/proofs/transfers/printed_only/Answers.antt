@@ -22,7 +22,9 @@ returns-in_err-stands c words part h =
     (err_from_is_err_and _ c.from_residual.ensures.1)
     (noted_fails words demand part (value_view c.args.found.value) (value_view c.noted-found.result.value)
     (end_in c.args.found.end) (end_in c.noted-found.result.end) c.is_printed-is_fit.result
-    (ap (λ (type : PasType). unless (is_of integer table type || is_of char table type) (wrong WRONG_TYPE)) c.pas_type.ensures ∙ ap (λ (holds : Bool). unless holds (wrong WRONG_TYPE)) (sym c.is_printed-is_fit.ensures))
+    (ap (λ (type : PasType). unless (is_of integer table type || is_of char table type) (wrong WRONG_TYPE))
+    c.pas_type.ensures
+    ∙ ap (λ (holds : Bool). unless holds (wrong WRONG_TYPE)) (sym c.is_printed-is_fit.ensures))
     (ap value_view c.noted-found.ensures.value) c.noted-found.ensures.end h why c.in_err-stands.ensures)
 
 pub returns : goal.returns
@@ -31,5 +33,7 @@ returns c words part h =
     let demand = printed_only table in
     noted_stands words demand part (value_view c.args.found.value) (value_view c.noted-found.result.value)
     (end_in c.args.found.end) (end_in c.noted-found.result.end) c.is_printed-is_fit.result
-    (ap (λ (type : PasType). unless (is_of integer table type || is_of char table type) (wrong WRONG_TYPE)) c.pas_type.ensures ∙ ap (λ (holds : Bool). unless holds (wrong WRONG_TYPE)) (sym c.is_printed-is_fit.ensures))
+    (ap (λ (type : PasType). unless (is_of integer table type || is_of char table type) (wrong WRONG_TYPE))
+    c.pas_type.ensures
+    ∙ ap (λ (holds : Bool). unless holds (wrong WRONG_TYPE)) (sym c.is_printed-is_fit.ensures))
     (ap value_view c.noted-found.ensures.value) c.noted-found.ensures.end h c.in_ok-stands.ensures
