@@ -88,19 +88,19 @@ abbrev pub AreActual : List Actual → Type 0
 AreActual [] = ⊤
 AreActual (actual ∷ actuals) = IsActual actual × AreActual actuals
 
-text_count : (scopes : Scopes) (expr : Expr) (bytes : List ℕ) → text_in expr ≡ Some bytes
+pub text_count : (scopes : Scopes) (expr : Expr) (bytes : List ℕ) → text_in expr ≡ Some bytes
     → count (value_of scopes expr).marks ≡ 1
 text_count scopes (tree.sum (tree.first_term (tree.first_factor (tree.literal_text quoted)))) bytes h =
     (char_many (text_at 0 quoted) (undoubled quoted.text)).same
 text_count scopes expr bytes h = absurd (none-some bytes h)
 
-are_more_actual : (scopes : Scopes) (more : List (Behind tree.Argument))
+pub are_more_actual : (scopes : Scopes) (more : List (Behind tree.Argument))
     → AreActual (map (λ behind. actual_of scopes behind.item) more)
 are_more_actual scopes [] = tt
 are_more_actual scopes (behind ∷ more) =
     ((λ bytes h. text_count scopes behind.item.value bytes h), are_more_actual scopes more)
 
-are_actual : (scopes : Scopes) (arguments : Separated tree.Argument) → AreActual (actuals_of scopes arguments)
+pub are_actual : (scopes : Scopes) (arguments : Separated tree.Argument) → AreActual (actuals_of scopes arguments)
 are_actual scopes arguments =
     ((λ bytes h. text_count scopes arguments.first.value bytes h), are_more_actual scopes arguments.more)
 
@@ -191,7 +191,7 @@ width_count table (Some width) =
       followed_count width.marks no_token,
     )
 
-on_text_count : (table : Table) (actual : Actual) (text : Option (List ℕ)) → actual.text ≡ text → IsActual actual
+pub on_text_count : (table : Table) (actual : Actual) (text : Option (List ℕ)) → actual.text ≡ text → IsActual actual
     → count (item_on_text table actual text).marks ≡ count (plain_marks (without_width actual))
 on_text_count table actual None same h =
     let found : Judged Value = checked (printed_only table) actual.value in

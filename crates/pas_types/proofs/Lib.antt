@@ -53,3 +53,5 @@ pub mod ConstantRowLemmas
 pub mod RowLemmas
 pub mod TypeRowLemmas
 pub mod TypeNoteLemmas
+pub mod TransferLemmas
+pub mod PrintLemmas

@@ -11,3 +11,4 @@ pub mod ExpressionAnswers
 pub mod NameAnswers
 pub mod FormAnswers
 pub mod Declared
+pub mod Transfers

@@ -90,6 +90,13 @@ impl End {
         shown(self.lower(Wrong { code, which: 0 }), self.line)
     }
 
+    // Why the part is refused, where its last token shows what is wrong with it too.
+    pub(crate) fn refuses(self, found: Wrong) -> Stop
+        ensures { result ≡ shown_in (end_in self).line (lower_of (end_in self).refusal (wrong_in found)) }
+    {
+        shown(self.lower(found), self.line)
+    }
+
     // Refuses the part by the fault of its last token.
     pub(crate) fn stands(self) -> Result<(), Stop>
         ensures { result ≡ stands_by (end_in self) }

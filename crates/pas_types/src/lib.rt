@@ -16,6 +16,7 @@ mod noting;
 mod scopes;
 mod simple_types;
 mod stop;
+mod transfers;
 mod type_forms;
 mod variables;
 

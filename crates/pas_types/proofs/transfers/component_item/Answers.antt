@@ -1,0 +1,78 @@
+use Rattle.std.proofs.Common.{Some, List}
+use Rattle.std.proofs.lemmas.Result.{err_from_is_err_and}
+use Rattle.pas_syntax.specs.ProgramViews.{argument_in}
+use Rattle.pas_syntax.specs.Words.{Word, expr_words}
+use Rattle.pas_typed.specs.Typed.{Value}
+use Rattle.pas_typed.specs.TypedViews.{value_view}
+use Rattle.pas_types.specs.Marks.{Judged, checked}
+use Rattle.pas_types.specs.Calls.{component_demand}
+use Rattle.pas_types.specs.Expressions.{value_of}
+use Rattle.pas_types.specs.ScopeViews.{scopes_view}
+use Rattle.pas_types.specs.inner.Answers.{end_in}
+use Rattle.pas_types.proofs.AnswerLemmas.{stands_stop, stops_fails, checked_stops_by}
+use Rattle.pas_types.proofs.TransferLemmas.{widened, widened_words, widened_fails, width_fails, width_stands}
+use Rattle.pas_types.proofs.transfers.component_item.Goals as goal
+
+pub returns-in_err-found : goal.returns-in_err-found
+returns-in_err-found c clear n component is =
+    let scopes = scopes_view c.args.scopes.now in
+    let table = scopes.outer.types in
+    let argument = argument_in c.args.scopes.now.spellings.now c.args.argument.now in
+    let words : List Word = expr_words n 0 argument.value in
+    let demand = component_demand table (Some component) in
+    let value : Judged Value = value_of scopes argument.value in
+    let part : Judged Value = checked demand value in
+    let why = c.in_err-found.field-0.0 in
+    (stands_stop (widened_words scopes n words part argument.width) (widened scopes n words part argument.width)
+    value_view why c.from_residual.result (err_from_is_err_and _ c.from_residual.ensures.1)
+    (widened_fails scopes n words part argument.width why
+    (stops_fails words (checked demand value) why (checked_stops_by words demand value why
+    (c.in_err-found.ensures clear n 0)))))
+
+pub returns-in_err-found-2 : goal.returns-in_err-found-2
+returns-in_err-found-2 c clear n component is =
+    let scopes = scopes_view c.args.scopes.now in
+    let table = scopes.outer.types in
+    let argument = argument_in c.args.scopes.now.spellings.now c.args.argument.now in
+    let words : List Word = expr_words n 0 argument.value in
+    let demand = component_demand table (Some component) in
+    let value : Judged Value = value_of scopes argument.value in
+    let part : Judged Value = checked demand value in
+    let why = c.in_err-found-2.field-0.0 in
+    (stands_stop (widened_words scopes n words part argument.width) (widened scopes n words part argument.width)
+    value_view why c.from_residual-in_err-found-2.result
+    (err_from_is_err_and _ c.from_residual-in_err-found-2.ensures.1)
+    (widened_fails scopes n words part argument.width why
+    (c.in_err-found-2.ensures words value component is (c.in_ok-found.ensures clear n 0))))
+
+pub returns-in_err-no_width : goal.returns-in_err-no_width
+returns-in_err-no_width c clear n component is =
+    let scopes = scopes_view c.args.scopes.now in
+    let table = scopes.outer.types in
+    let argument = argument_in c.args.scopes.now.spellings.now c.args.argument.now in
+    let words : List Word = expr_words n 0 argument.value in
+    let demand = component_demand table (Some component) in
+    let value : Judged Value = value_of scopes argument.value in
+    let part : Judged Value = checked demand value in
+    let found = c.in_ok-found-2.found in
+    let why = c.in_err-no_width.field-0.0 in
+    (stands_stop (widened_words scopes n words part argument.width) (widened scopes n words part argument.width)
+    value_view why c.from_residual-in_err-no_width.result
+    (err_from_is_err_and _ c.from_residual-in_err-no_width.ensures.1)
+    (width_fails scopes n words part argument.width (value_view found.value) (end_in found.end) why
+    (c.in_ok-found-2.ensures words value component is (c.in_ok-found.ensures clear n 0))
+    (c.in_err-no_width.ensures c.args.scopes.now.spellings.now)))
+
+pub returns : goal.returns
+returns c clear n component is =
+    let scopes = scopes_view c.args.scopes.now in
+    let table = scopes.outer.types in
+    let argument = argument_in c.args.scopes.now.spellings.now c.args.argument.now in
+    let words : List Word = expr_words n 0 argument.value in
+    let demand = component_demand table (Some component) in
+    let value : Judged Value = value_of scopes argument.value in
+    let part : Judged Value = checked demand value in
+    let found = c.in_ok-found-2.found in
+    (width_stands scopes n words part argument.width (value_view found.value) (end_in found.end)
+    (c.in_ok-found-2.ensures words value component is (c.in_ok-found.ensures clear n 0))
+    (c.in_ok-no_width.ensures c.args.scopes.now.spellings.now))

@@ -1,0 +1,39 @@
+use Rattle.std.proofs.Common.{sym, ap, ◌∙◌, Bool}
+use Rattle.std.proofs.lemmas.Result.{err_from_is_err_and}
+use Rattle.wb_base.specs.declared.faults.TheConstants.{WRONG_TYPE}
+use Rattle.pas_tokens.specs.Cutting.{wrong}
+use Rattle.std.specs.Prelude.{◌||◌}
+use Rattle.pas_typed.specs.Types.{Table, PasType, integer, char, is_of}
+use Rattle.pas_typed.specs.TypeViews.{table_view}
+use Rattle.pas_typed.specs.TypedViews.{value_view}
+use Rattle.pas_types.specs.Marks.{checked, unless}
+use Rattle.pas_types.specs.Calls.{printed_only}
+use Rattle.pas_types.specs.inner.Answers.{end_in}
+use Rattle.pas_types.proofs.AnswerLemmas.{stands_stop}
+use Rattle.pas_types.proofs.TransferLemmas.{noted_fails, noted_stands}
+use Rattle.pas_types.proofs.transfers.printed_only.Goals as goal
+
+pub returns-in_err-stands : goal.returns-in_err-stands
+returns-in_err-stands c words part h =
+    let table : Table = table_view c.args.scopes.now.spellings.now c.args.scopes.now.types in
+    let demand = printed_only table in
+    let why = c.in_err-stands.field-0.0 in
+    stands_stop words (checked demand part) value_view why c.from_residual.result
+    (err_from_is_err_and _ c.from_residual.ensures.1)
+    (noted_fails words demand part (value_view c.args.found.value) (value_view c.noted-found.result.value)
+    (end_in c.args.found.end) (end_in c.noted-found.result.end) c.is_printed-is_fit.result
+    (ap (λ (type : PasType). unless (is_of integer table type || is_of char table type) (wrong WRONG_TYPE))
+    c.pas_type.ensures
+    ∙ ap (λ (holds : Bool). unless holds (wrong WRONG_TYPE)) (sym c.is_printed-is_fit.ensures))
+    (ap value_view c.noted-found.ensures.value) c.noted-found.ensures.end h why c.in_err-stands.ensures)
+
+pub returns : goal.returns
+returns c words part h =
+    let table : Table = table_view c.args.scopes.now.spellings.now c.args.scopes.now.types in
+    let demand = printed_only table in
+    noted_stands words demand part (value_view c.args.found.value) (value_view c.noted-found.result.value)
+    (end_in c.args.found.end) (end_in c.noted-found.result.end) c.is_printed-is_fit.result
+    (ap (λ (type : PasType). unless (is_of integer table type || is_of char table type) (wrong WRONG_TYPE))
+    c.pas_type.ensures
+    ∙ ap (λ (holds : Bool). unless holds (wrong WRONG_TYPE)) (sym c.is_printed-is_fit.ensures))
+    (ap value_view c.noted-found.ensures.value) c.noted-found.ensures.end h c.in_ok-stands.ensures

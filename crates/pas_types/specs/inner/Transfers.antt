@@ -1,0 +1,63 @@
+-- What functions that check reading and writing answer.
+use Rattle.std.specs.Prelude.{◌≡◌, ℕ, List, [], ◌∷◌, Option, Some, None, option_and_then, Result, Ok, Err}
+use Rattle.wb_base.specs.declared.faults.TheConstants.{WRONG_TYPE, FILE_RULE}
+use Rattle.pas_tokens.specs.Cutting.{Wrong, wrong}
+use Rattle.pas_syntax.specs.Tree.{Behind, Expr}
+use Rattle.pas_typed.specs.declared.typed.Place as code_place
+use Rattle.pas_typed.specs.TypedViews.{place_view}
+use Rattle.pas_typed.specs.Typed as typed
+use Rattle.pas_typed.specs.Typed.{Slot, Value, Place}
+use Rattle.pas_types.specs.declared.stop.Stop.{Stop}
+use Rattle.pas_types.specs.declared.stop.Stop.TheVariants as stop
+use Rattle.pas_types.specs.declared.stop.Wrong.{Wrong as CodeWrong}
+use Rattle.pas_types.specs.declared.transfers.Extent.{Extent as CodeExtent}
+use Rattle.pas_types.specs.declared.transfers.Extent.TheVariants as code
+use Rattle.pas_types.specs.Marks.{Judged, judged, both, joined, checked}
+use Rattle.pas_types.specs.Scopes.{Procedure, read, readln, write, writeln}
+use Rattle.pas_types.specs.Expressions.{Demand, place_in}
+use Rattle.pas_types.specs.Calls.{Extent, items_alone, whole_line, no_width}
+use Rattle.pas_types.specs.inner.Stopping.{wrong_in, shown_in}
+
+abbrev pub extent_view : CodeExtent → Extent
+extent_view code.ItemsAlone = items_alone
+extent_view code.WholeLine = whole_line
+
+-- the procedures that read and write so far
+abbrev pub reading : CodeExtent → Procedure
+reading code.ItemsAlone = read
+reading code.WholeLine = readln
+
+abbrev pub writing : CodeExtent → Procedure
+writing code.ItemsAlone = write
+writing code.WholeLine = writeln
+
+-- what is made of what was found, unless there is no memory for it
+abbrev pub Makes : {X A : Type 0} → (X → A) → A → Result X Stop → Type 0
+Makes view made (Ok found) = view found ≡ made
+Makes view made (Err why) = why ≡ stop.OutOfMemory
+
+-- the file that is meant where none is named, which the name in this line shows to be none
+abbrev pub MeansFile : Option Slot → ℕ → Result code_place.Place Stop → Type 0
+MeansFile (Some slot) line (Ok file) = place_view file ≡ typed.slot slot
+MeansFile None line (Err why) = why ≡ shown_in line (wrong FILE_RULE)
+MeansFile slot line result = ⊥
+
+-- the faults that are one, or none
+abbrev pub wrongs_in : Option CodeWrong → List Wrong
+wrongs_in None = []
+wrongs_in (Some found) = wrong_in found ∷ []
+
+-- a part behind which no width may stand
+abbrev pub without_width_behind : {A : Type 0} → Judged A → Option (Judged Value) → Judged A
+without_width_behind part width =
+    let behind = no_width width in
+    judged (joined (part.marks ∷ behind.marks ∷ [])) (both (λ value nothing. value) part.value behind.value)
+
+-- what is refused where no width may stand
+abbrev pub width_refused : Option (Behind Expr) → Result (Unit {0}) Stop
+width_refused None = Ok tt
+width_refused (Some width) = Err (shown_in width.line (wrong WRONG_TYPE))
+
+-- the place that a value is which meets a demand
+abbrev pub place_by : Demand → Judged Value → Judged Place
+place_by demand part = let found = checked demand part in judged found.marks (option_and_then place_in found.value)

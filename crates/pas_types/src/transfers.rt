@@ -1,0 +1,332 @@
+//! Reading and writing (ISO 7185, 6.9, in this project's profile).
+ghost use Rattle.std.specs.Prelude.{◌≡◌, ◌∷◌, [], ℕ, List, true, false, not, is_some, ◌&&◌, ◌||◌, map, Option, Some, None, option_map};
+ghost use Rattle.pas_syntax.specs.Views.{expr_in};
+ghost use Rattle.pas_syntax.specs.ProgramViews.{argument_in};
+ghost use Rattle.pas_syntax.specs.Words.{Word, expr_words, argument_words};
+ghost use Rattle.pas_typed.specs.Types.{component_of};
+ghost use Rattle.pas_typed.specs.Types as spec_type;
+ghost use Rattle.pas_typed.specs.Typed.{Value as SpecValue, Place as SpecPlace};
+ghost use Rattle.pas_typed.specs.TypeOf.{type_of, type_of_place};
+ghost use Rattle.pas_typed.specs.TypeViews.{type_view};
+ghost use Rattle.pas_typed.specs.TypedViews.{value_view, place_view, slot_view, item_view, statement_view};
+ghost use Rattle.pas_types.specs.Calls as spec;
+ghost use Rattle.pas_types.specs.Expressions as spec_value;
+ghost use Rattle.pas_types.specs.Marks.{checked, Judged as SpecJudged};
+ghost use Rattle.pas_types.specs.ScopeViews.{scopes_view, IsClear};
+ghost use Rattle.pas_types.specs.inner.Answers.{end_in, EndsAs, Stands, Settles};
+ghost use Rattle.pas_types.specs.inner.Transfers.{reading, writing, extent_view, Makes, MeansFile, wrongs_in};
+ghost use Rattle.pas_types.specs.inner.Transfers.{place_by, width_refused};
+
+use crate::expressions::{only, value_of};
+use crate::functions::place_alone;
+use crate::judged::Judged;
+use crate::scopes::Scopes;
+use crate::stop::{Stop, Wrong, fault};
+use crate::variables::whole;
+use pas_syntax::tree::{Argument, Expr};
+use pas_typed::typed::{Item, Passed, Place, Slot, Statement, Value};
+use pas_typed::types::{Base, PasType};
+use sqlite_items::{Boxed, Items};
+use wb_base::faults::{FILE_RULE, PASCAL_LEFT_OUT, READING_NUMBERS, WRONG_TYPE};
+
+// Whether items alone are read or written, or with the end of a line.
+#[derive(Clone, Copy, Debug, PartialEq, Eq)]
+pub(crate) enum Extent {
+    ItemsAlone,
+    WholeLine,
+}
+
+// What a transfer without arguments is on: the file that it means, with its name in this line.
+fn standard_only(scopes: &Scopes<'_>, slot: Option<Slot>, line: u32) -> Result<Place, Stop>
+    ensures { MeansFile (option_map slot_view slot) line result }
+{
+    match slot {
+        Some(slot) => Ok(whole(scopes, slot)),
+        None => Err(fault(FILE_RULE, line)),
+    }
+}
+
+// What `read` or `readln` without arguments means.
+pub(crate) fn read_alone(scopes: &Scopes<'_>, line: u32, extent: Extent) -> Result<Statement, Stop>
+    ensures { (word : Word) → word.token.line ≡ line → Settles (word ∷ [])
+        (spec.procedure_alone (scopes_view scopes.now) (reading extent)) (statement_view scopes.now.spellings.now)
+        result }
+{
+    let file = standard_only(scopes, scopes.standard_file(b"input"), line)?;
+    match extent {
+        Extent::ItemsAlone => Err(Stop::Missing),
+        Extent::WholeLine => reads(scopes, extent, file, Items::new(scopes.alloc)),
+    }
+}
+
+// What `write` or `writeln` without arguments means.
+pub(crate) fn write_alone(scopes: &Scopes<'_>, line: u32, extent: Extent) -> Result<Statement, Stop>
+    ensures { (word : Word) → word.token.line ≡ line → Settles (word ∷ [])
+        (spec.procedure_alone (scopes_view scopes.now) (writing extent)) (statement_view scopes.now.spellings.now)
+        result }
+{
+    let file = standard_only(scopes, scopes.standard_file(b"output"), line)?;
+    match extent {
+        Extent::ItemsAlone => Err(Stop::Missing),
+        Extent::WholeLine => {
+            let file = Boxed::new(scopes.alloc, file)?;
+            Ok(Statement::WritesLine(file, Items::new(scopes.alloc)))
+        }
+    }
+}
+
+// Reading from a file into places.
+fn reads(
+    scopes: &Scopes<'_>,
+    extent: Extent,
+    file: Place,
+    places: Items<Place>,
+) -> Result<Statement, Stop>
+    ensures { Makes (statement_view scopes.now.spellings.now)
+        (spec.reads_by (extent_view extent) (place_view file) (map place_view places)) result }
+{
+    let file = Boxed::new(scopes.alloc, file)?;
+    match extent {
+        Extent::ItemsAlone => Ok(Statement::Reads(file, places)),
+        Extent::WholeLine => Ok(Statement::ReadsLine(file, places)),
+    }
+}
+
+// The place that is read from a file of this type.
+fn read_item(scopes: &Scopes<'_>, file: PasType, argument: &Argument) -> Result<Judged<Place>, Stop>
+    ensures { IsClear (scopes_view scopes.now) → (n : ℕ) (place : SpecPlace) → type_of_place place ≡ type_view file
+        → is_some (component_of (scopes_view scopes.now).outer.types (type_view file)) ≡ true
+        → Stands (argument_words n (argument_in scopes.now.spellings.now argument.now))
+        (spec.read_item (scopes_view scopes.now).outer.types (Some place)
+        (spec.actual_of (scopes_view scopes.now) (argument_in scopes.now.spellings.now argument.now)))
+        place_view result }
+{
+    let found = value_of(scopes, &argument.value)?;
+    let found = read_only(scopes, file, found)?;
+    no_width(argument)?;
+    Ok(found)
+}
+
+// The place that a value is which is read from a file of this type.
+fn read_only(
+    scopes: &Scopes<'_>,
+    file: PasType,
+    found: Judged<Value>,
+) -> Result<Judged<Place>, Stop>
+    ensures { (words : List Word) (part : SpecJudged SpecValue) (place : SpecPlace)
+        → type_of_place place ≡ type_view file
+        → is_some (component_of (scopes_view scopes.now).outer.types (type_view file)) ≡ true
+        → EndsAs words part (value_view found.value) (end_in found.end)
+        → Stands words (place_by (spec.read_demand (scopes_view scopes.now).outer.types (Some place)) part)
+        place_view result }
+{
+    match unread(scopes, file, &found.value) {
+        Some(wrong) => Err(found.end.refuses(wrong)),
+        None => {
+            found.end.stands()?;
+            let line = found.end.line;
+            let place = place_alone(found.value, line)?.into_inner();
+            Ok(Judged {
+                value: place,
+                end: found.end,
+            })
+        }
+    }
+}
+
+// Why a value is not read from a file of this type. From a text a char is read, into a variable, and from another file
+// a component. Integers are not read from a text.
+fn unread(scopes: &Scopes<'_>, file: PasType, value: &Value) -> Option<Wrong>
+    ensures { (place : SpecPlace) → type_of_place place ≡ type_view file
+        → is_some (component_of (scopes_view scopes.now).outer.types (type_view file)) ≡ true
+        → spec.read_demand (scopes_view scopes.now).outer.types (Some place) (value_view value.now)
+        ≡ wrongs_in result }
+{
+    if is_left_out(scopes, file, value) {
+        return Some(Wrong {
+            code: PASCAL_LEFT_OUT,
+            which: READING_NUMBERS,
+        });
+    }
+    if is_read(scopes, file, value) {
+        None
+    } else {
+        Some(Wrong {
+            code: WRONG_TYPE,
+            which: 0,
+        })
+    }
+}
+
+// Whether reading a value from a file of this type is left out.
+fn is_left_out(scopes: &Scopes<'_>, file: PasType, value: &Value) -> bool
+    ensures { result ≡ (spec_type.same_type (type_view file) spec_type.text
+        && (spec_type.is_of spec_type.integer (scopes_view scopes.now).outer.types (type_of (value_view value.now))
+        && not (spec.is_call_by_name (value_view value.now)))) }
+{
+    file.is(PasType::Text) && is_number(scopes, value)
+}
+
+// Whether a value is an integer, and no function by its name alone.
+fn is_number(scopes: &Scopes<'_>, value: &Value) -> bool
+    ensures { result ≡ (spec_type.is_of spec_type.integer (scopes_view scopes.now).outer.types
+        (type_of (value_view value.now)) && not (spec.is_call_by_name (value_view value.now))) }
+{
+    scopes.types.is_of(Base::Integer, value.pas_type()) && !is_call_by_name(value)
+}
+
+// Whether a value is the call of a function without arguments.
+fn is_call_by_name(value: &Value) -> bool
+    ensures { result ≡ spec.is_call_by_name (value_view value.now) }
+{
+    match value {
+        Value::Call(call) => match call.get().passed.get(0) {
+            Some(Passed::Value(_pas_type, _value)) => false,
+            Some(Passed::Reference(_place)) => false,
+            None => true,
+        },
+        _ => false,
+    }
+}
+
+// Whether a value is a variable that takes what is read from a file of this type.
+fn is_read(scopes: &Scopes<'_>, file: PasType, value: &Value) -> bool
+    ensures { (component : spec_type.PasType)
+        → component_of (scopes_view scopes.now).outer.types (type_view file) ≡ Some component
+        → result ≡ (is_some (spec_value.place_in (value_view value.now)) && spec_type.are_compatible
+        (scopes_view scopes.now).outer.types component (type_of (value_view value.now))) }
+{
+    match value {
+        Value::Read(place) => takes(scopes, file, place.get().pas_type()),
+        _ => false,
+    }
+}
+
+// Whether components of a file of this type fit another type.
+fn takes(scopes: &Scopes<'_>, file: PasType, pas_type: PasType) -> bool
+    ensures { (component : spec_type.PasType)
+        → component_of (scopes_view scopes.now).outer.types (type_view file) ≡ Some component
+        → result ≡ spec_type.are_compatible (scopes_view scopes.now).outer.types component (type_view pas_type) }
+{
+    match scopes.types.component_of(file) {
+        Some(component) => scopes.types.are_compatible(component, pas_type),
+        None => false,
+    }
+}
+
+// Refuses a width, at its colon.
+fn no_width(argument: &Argument) -> Result<(), Stop>
+    ensures { (spellings : List ℕ) → result ≡ width_refused (argument_in spellings argument.now).width }
+{
+    match &argument.width {
+        Some(width) => Err(fault(WRONG_TYPE, width.line)),
+        None => Ok(()),
+    }
+}
+
+// A value that is written as a component of a file of this type.
+fn component_item(
+    scopes: &Scopes<'_>,
+    file: PasType,
+    argument: &Argument,
+) -> Result<Judged<Value>, Stop>
+    ensures { IsClear (scopes_view scopes.now) → (n : ℕ) (component : spec_type.PasType)
+        → component_of (scopes_view scopes.now).outer.types (type_view file) ≡ Some component
+        → Stands (argument_words n (argument_in scopes.now.spellings.now argument.now))
+        (spec_value.met (spec.component_demand (scopes_view scopes.now).outer.types (Some component))
+        (spec.without_width (spec.actual_of (scopes_view scopes.now)
+        (argument_in scopes.now.spellings.now argument.now)))) value_view result }
+{
+    let found = value_of(scopes, &argument.value)?;
+    let found = component_only(scopes, file, found)?;
+    no_width(argument)?;
+    Ok(found)
+}
+
+// A value that components of a file of this type fit.
+fn component_only(
+    scopes: &Scopes<'_>,
+    file: PasType,
+    found: Judged<Value>,
+) -> Result<Judged<Value>, Stop>
+    ensures { (words : List Word) (part : SpecJudged SpecValue) (component : spec_type.PasType)
+        → component_of (scopes_view scopes.now).outer.types (type_view file) ≡ Some component
+        → EndsAs words part (value_view found.value) (end_in found.end)
+        → Stands words (checked (spec.component_demand (scopes_view scopes.now).outer.types (Some component)) part)
+        value_view result }
+{
+    let is_fit = takes(scopes, file, found.value.pas_type());
+    let found = found.noted(is_fit, WRONG_TYPE);
+    found.end.stands()?;
+    Ok(found)
+}
+
+// A value that is written on a text: an integer or a char.
+fn printed_only(scopes: &Scopes<'_>, found: Judged<Value>) -> Result<Judged<Value>, Stop>
+    ensures { (words : List Word) (part : SpecJudged SpecValue)
+        → EndsAs words part (value_view found.value) (end_in found.end)
+        → Stands words (checked (spec.printed_only (scopes_view scopes.now).outer.types) part) value_view result }
+{
+    let is_fit = is_printed(scopes, found.value.pas_type());
+    let found = found.noted(is_fit, WRONG_TYPE);
+    found.end.stands()?;
+    Ok(found)
+}
+
+// Whether values of a type are written on a text.
+fn is_printed(scopes: &Scopes<'_>, pas_type: PasType) -> bool
+    ensures { result ≡ (spec_type.is_of spec_type.integer (scopes_view scopes.now).outer.types (type_view pas_type)
+        || spec_type.is_of spec_type.char (scopes_view scopes.now).outer.types (type_view pas_type)) }
+{
+    scopes.types.is_of(Base::Integer, pas_type) || scopes.types.is_of(Base::Char, pas_type)
+}
+
+// What an integer or a char that is written on a text means, with its width or without.
+fn printed_item(scopes: &Scopes<'_>, argument: &Argument) -> Result<Judged<Item>, Stop>
+    ensures { IsClear (scopes_view scopes.now) → (n : ℕ)
+        → Stands (argument_words n (argument_in scopes.now.spellings.now argument.now))
+        (spec.item_on_text (scopes_view scopes.now).outer.types (spec.actual_of (scopes_view scopes.now)
+        (argument_in scopes.now.spellings.now argument.now)) None) (item_view scopes.now.spellings.now) result }
+{
+    let found = value_of(scopes, &argument.value)?;
+    let found = printed_only(scopes, found)?;
+    match &argument.width {
+        Some(width) => {
+            let value = found.before(width.line)?;
+            let given = width_of(scopes, &width.item)?;
+            Ok(Judged {
+                value: item_as(scopes, value, Some(given.value)),
+                end: given.end,
+            })
+        }
+        None => Ok(Judged {
+            value: item_as(scopes, found.value, None),
+            end: found.end,
+        }),
+    }
+}
+
+// What the width of an item means.
+fn width_of(scopes: &Scopes<'_>, width: &Expr) -> Result<Judged<Value>, Stop>
+    ensures { IsClear (scopes_view scopes.now) → (n : ℕ)
+        → Stands (expr_words n 0 (expr_in scopes.now.spellings.now width.now))
+        (checked (spec_value.only spec_type.integer (scopes_view scopes.now).outer.types)
+        (spec_value.value_of (scopes_view scopes.now) (expr_in scopes.now.spellings.now width.now))) value_view
+        result }
+{
+    let found = only(scopes, Base::Integer, value_of(scopes, width)?);
+    found.end.stands()?;
+    Ok(found)
+}
+
+// A value with a width or not, as it is written on a text.
+fn item_as(scopes: &Scopes<'_>, value: Value, width: Option<Value>) -> Item
+    ensures { item_view scopes.now.spellings.now result ≡ spec.item_of (scopes_view scopes.now).outer.types
+        (value_view value) (option_map value_view width) }
+{
+    if scopes.types.is_of(Base::Char, value.pas_type()) {
+        Item::Char(value, width)
+    } else {
+        Item::Number(value, width)
+    }
+}
