@@ -40,6 +40,7 @@ pub(crate) fn routine_alone(
 {
     match scopes.heading_of(number) {
         Some(heading) => heading_alone(scopes, ident, number, heading),
+        // No text leads here: each routine that has a name has a heading.
         None => Err(Stop::OutOfMemory),
     }
 }
@@ -90,6 +91,7 @@ pub(crate) fn routine_with(
                 Ok(Statement::Calls(number, passed))
             }
         },
+        // No text leads here: each routine that has a name has a heading.
         None => Err(Stop::OutOfMemory),
     }
 }

@@ -53,6 +53,7 @@ pub(crate) fn function_alone(
 {
     match scopes.heading_of(number) {
         Some(heading) => heading_alone(scopes, ident, number, heading),
+        // No text leads here: each routine that has a name has a heading.
         None => Err(Stop::OutOfMemory),
     }
 }
@@ -191,6 +192,7 @@ fn routine_called(
             }
             None => Err(fault(WRONG_TYPE, name.line)),
         },
+        // No text leads here: each routine that has a name has a heading.
         None => Err(Stop::OutOfMemory),
     }
 }

@@ -22,7 +22,7 @@ returns-in-Some-Value c =
     sym (ap is_call_by_name viewed
     ∙ ap (λ (passed : Passed). is_call_by_name (call called.routine (type_view called.pas_type) passed))
     (found.1 ∙ ap (λ (one : code_passed.Passed). passed_view one found.0) c.in-Some-Value.field-0-is
-    ∙ ap (λ (step : Passed → Passed). step found.0) 
+    ∙ ap (λ (step : Passed → Passed). step found.0)
     (passed_view-Value c.in-Some-Value._pas_type c.in-Some-Value._value)))
 
 pub returns-in-Some-Reference : goal.returns-in-Some-Reference
