@@ -1,5 +1,6 @@
 //! Reading and writing (ISO 7185, 6.9, in this project's profile).
-ghost use Rattle.std.specs.Prelude.{◌≡◌, ◌∷◌, [], ℕ, List, true, false, not, is_some, ◌&&◌, ◌||◌, map, Option, Some, None, option_map};
+ghost use Rattle.std.specs.Prelude.{◌≡◌, ◌∷◌, [], ℕ, List, true, false, not, is_some, ◌&&◌, ◌||◌, map, Option};
+ghost use Rattle.std.specs.Prelude.{Some, None, option_map};
 ghost use Rattle.pas_syntax.specs.Views.{expr_in};
 ghost use Rattle.pas_syntax.specs.ProgramViews.{argument_in};
 ghost use Rattle.pas_syntax.specs.Words.{Word, expr_words, argument_words};
