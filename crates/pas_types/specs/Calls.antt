@@ -15,7 +15,7 @@ use Rattle.pas_typed.specs.Typed.{FileStep, Variable, Slot, Value, Place, Item, 
 use Rattle.pas_types.specs.Scopes.{Entity, routine, file_step, procedure, unclear, Procedure, read, readln, write}
 use Rattle.pas_types.specs.Scopes.{writeln, uexit, Scopes, standard_file}
 use Rattle.pas_types.specs.TypeForms.{undoubled}
-use Rattle.pas_types.specs.Expressions.{only, place_in, file_in}
+use Rattle.pas_types.specs.Expressions.{only, place_in, file_at, file_in}
 use Rattle.pas_types.specs.Expressions.{file_only}
 use Rattle.pas_types.specs.Expressions.{compatible_with, Demand, Bare, bare, Given, met, called, not_called, given}
 use Rattle.pas_types.specs.Expressions.{demands_of, passed_to, heading_of, first_value, value_of}
@@ -90,10 +90,14 @@ halt_with table arguments =
 
 -- reading and writing
 
--- the file that a list of arguments begins with, if it does
+-- the file that a list of arguments begins with, if it does: a variable by itself, as a file is no part of anything
+abbrev pub whole_file : Table → Value → Option Place
+whole_file table (typed.read (typed.slot slot)) = file_at table (typed.slot slot)
+whole_file table value = None
+
 abbrev pub named_file : Table → List Actual → Option Place
 named_file table [] = None
-named_file table (actual ∷ actuals) = option_and_then (file_in table) actual.value.value
+named_file table (actual ∷ actuals) = option_and_then (whole_file table) actual.value.value
 
 -- whether items alone are read or written, of which there must be one, or with the end of a line, which only a text has
 pub data Extent : Type 0 where

@@ -1,6 +1,6 @@
 -- Scopes (ISO 7185, 6.2): lists of names in the order of their declarations. The required names lie outside the
 -- program's scope, and that outside each routine's.
-use Rattle.std.specs.Prelude.{ℕ, Bool, true, false, not, List, [], ◌∷◌, ◌++◌, map}
+use Rattle.std.specs.Prelude.{ℕ, ◌&&◌, Bool, true, false, not, List, [], ◌∷◌, ◌++◌, map}
 use Rattle.std.specs.Prelude.{find}
 use Rattle.std.specs.Prelude.{codes, ℤ, pos, if◌then◌else◌, Option, Some, None, option_map, option_and_then}
 use Rattle.std.specs.Str.{bytes_eq}
@@ -10,7 +10,7 @@ use Rattle.pas_tokens.specs.declared.limits.TheConstants.{GREATEST_NUMBER}
 use Rattle.pas_tokens.specs.Cutting.{wrong}
 use Rattle.pas_syntax.specs.Tree.{Ident, Idents}
 use Rattle.pas_types.specs.Marks.{Marks, shows, unless, listed}
-use Rattle.pas_typed.specs.Types.{Base, integer, char, boolean, PasType, whole, text, Table}
+use Rattle.pas_typed.specs.Types.{Base, integer, char, boolean, PasType, whole, text, same_type, Table}
 use Rattle.pas_typed.specs.Typed as typed
 use Rattle.pas_typed.specs.Typed.{Function, FileTest, FileStep, Variable, Slot, Heading, Home, global, local}
 
@@ -161,11 +161,11 @@ new_names taken idents = listed (each_new taken (idents_of idents))
 abbrev pub standard_names : List (List ℕ)
 standard_names = codes "input" ∷ codes "output" ∷ []
 
--- a variable of the program
-abbrev pub global_slot : Entity → Option Slot
-global_slot (variable slot) = if is_global slot.home then Some slot else None
-global_slot entity = None
+-- a text file of the program
+abbrev pub global_text : Entity → Option Slot
+global_text (variable slot) = if is_global slot.home && same_type slot.type text then Some slot else None
+global_text entity = None
 
 -- the file that is meant where a call names none: the parameter of the program with this name, where nothing hides it
 abbrev pub standard_file : Scopes → List ℕ → Option Slot
-standard_file scopes name = option_and_then global_slot (entity_of scopes name)
+standard_file scopes name = option_and_then global_text (entity_of scopes name)

@@ -8,3 +8,4 @@ pub mod Constants
 pub mod TypeAnswers
 pub mod Arguments
 pub mod ExpressionAnswers
+pub mod Transfers

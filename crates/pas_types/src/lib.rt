@@ -13,6 +13,7 @@ mod names;
 mod scopes;
 mod simple_types;
 mod stop;
+mod transfers;
 mod type_forms;
 mod variables;
 

@@ -12,7 +12,7 @@ use crate::name_sets::NameSet;
 use crate::names::{Entity, Names, required};
 use pas_syntax::tree::{Ident, Idents, Span};
 use pas_typed::typed::{Heading, Home, Slot, Variable};
-use pas_typed::types::Table;
+use pas_typed::types::{PasType, Table};
 use sqlite_items::Items;
 use std::alloc::{AllocError, Global};
 
@@ -159,7 +159,11 @@ impl<'p> Scopes<'p> {
         ensures { option_map slot_view result ≡ spec.standard_file (scopes_view self.now) name.now }
     {
         match self.entity_of(name) {
-            Some(Entity::Variable(slot)) if slot.home == Home::Global => Some(slot),
+            Some(Entity::Variable(slot))
+                if slot.home == Home::Global && slot.pas_type.is(PasType::Text) =>
+            {
+                Some(slot)
+            },
             _ => None,
         }
     }
