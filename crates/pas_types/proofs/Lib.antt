@@ -19,3 +19,10 @@ pub mod NumberLemmas
 pub mod ConstantLemmas
 pub mod SubrangeLemmas
 pub mod TypePartLemmas
+pub mod ChainLemmas
+pub mod StatementParts
+pub mod BodyLemmas
+pub mod FlowLemmas
+pub mod StatementLists
+pub mod TargetLemmas
+pub mod PlainSeen

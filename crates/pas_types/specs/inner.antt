@@ -6,3 +6,5 @@ pub mod LabelViews
 pub mod LabelAnswers
 pub mod Constants
 pub mod TypeAnswers
+pub mod FlowViews
+pub mod TargetViews

@@ -1,15 +1,23 @@
 //! The scopes and types of Pascal.
 #![tactic(auto)]
 
+mod assignments;
+mod calls;
+mod cases;
 mod constants;
+mod expressions;
+mod flow;
 mod judged;
 mod labels;
 mod limits;
+mod made;
 mod name_sets;
 mod names;
 mod scopes;
 mod simple_types;
+mod statements;
 mod stop;
 mod type_forms;
+mod variables;
 
 pub use limits::{CELL_LIMIT, GREATEST_LABEL, ROUTINE_CELL_LIMIT, ROUTINE_LIMIT};
