@@ -1,12 +1,15 @@
 -- Words and parts of statements behind one another: where checking stops in them, and where they show nothing.
 use Rattle.std.proofs.Common.{◌≡◌, refl, sym, ap, subst, ◌∙◌, ℕ, Bool, true, false, List, [], ◌∷◌, ◌++◌}
 use Rattle.std.proofs.Common.{Option, Some, None, Result, Ok, Err}
+use Rattle.std.specs.Prelude.{IfOk, OnOk}
+use Rattle.pas_tokens.specs.Cutting.{Wrong}
 use Rattle.pas_syntax.specs.Words.{Word}
 use Rattle.pas_types.specs.declared.stop.Stop.{Stop}
 use Rattle.pas_types.specs.declared.stop.Stop.TheVariants as stop
 use Rattle.pas_types.specs.Marks.{Marks, no_token, quiet, shows, followed, joined, Judged, judged, known, both, known_of}
 use Rattle.pas_types.specs.inner.Stopping.{stop_before, found_before}
-use Rattle.pas_types.specs.inner.Answers.{IsQuiet, Means, Shows, ShowsBy, Settles}
+use Rattle.pas_types.specs.inner.Answers.{Ending, noted_end, settled_at, settled_by, IsQuiet, Means, ShowsBy}
+use Rattle.pas_types.specs.inner.Answers.{Settles}
 use Rattle.pas_types.specs.inner.FlowViews.{ShowsBefore, Precedes}
 use Rattle.pas_types.proofs.AsMany.{AsMany}
 use Rattle.pas_types.proofs.SettleLemmas.{quiet_behind, shows_by_behind, shows_before, shows_front, quiet_word}
@@ -101,3 +104,21 @@ pub preceded : {X A : Type 0} (line : ℕ) (words : List Word) (part : Judged A)
     → Precedes line words part view result
 preceded line words part view found result is h =
     subst (Precedes line words part view) (sym is) (precedes line words part view found h)
+
+-- what is settled by an end is the value, and breaks no rule
+settled_at_value : {X : Type 0} (x : X) (line : ℕ) (refusal : Option Wrong) (is_short : Bool) (found : X)
+    → Ok found ≡ settled_at line refusal is_short x → found ≡ x
+settled_at_value x line None false found is = cc
+settled_at_value x line None true found is = cc
+settled_at_value x line (Some refusal) is_short found is = cc
+
+pub settled_value : {X : Type 0} (x : X) (end : Ending) (result : Result X Stop) → result ≡ settled_by end x
+    → IfOk result (λ found. found ≡ x)
+settled_value x end (Ok found) is = settled_at_value x end.line end.refusal end.is_short found is
+settled_value x end (Err why) is = tt
+
+pub settled_holds : {X : Type 0} (x : X) (end : Ending) (holds : Bool) (code : ℕ) (result : Result X Stop)
+    → result ≡ settled_by (noted_end holds code end) x → OnOk result (holds ≡ true)
+settled_holds x end true code (Ok found) is = refl
+settled_holds x end false code (Ok found) is = cc
+settled_holds x end holds code (Err why) is = tt

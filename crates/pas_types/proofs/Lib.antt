@@ -26,3 +26,6 @@ pub mod FlowLemmas
 pub mod StatementLists
 pub mod TargetLemmas
 pub mod PlainSeen
+pub mod CaseLemmas
+pub mod ResultLemmas
+pub mod CaseParts

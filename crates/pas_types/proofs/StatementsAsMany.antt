@@ -152,7 +152,7 @@ more_constants_many scopes base before n words found (behind ∷ more) h =
     (around (at n k.Comma behind.line) found.marks (checked demand next).marks h
     (checked_many demand next (constant_many scopes n behind.item))))
 
-constants_many : (scopes : Scopes) (base : Option Base) (before : List ℤ) (n : ℕ) (constants : Separated Constant)
+pub constants_many : (scopes : Scopes) (base : Option Base) (before : List ℤ) (n : ℕ) (constants : Separated Constant)
     → AsMany (separated n k.Comma (constant_words n) constants) (constants_of scopes base before constants).marks
 constants_many scopes base before n constants =
     let start : Judged (List ℤ) = judged no_token (Some []) in

@@ -8,3 +8,4 @@ pub mod Constants
 pub mod TypeAnswers
 pub mod FlowViews
 pub mod TargetViews
+pub mod CaseViews

@@ -13,6 +13,7 @@ mod limits;
 mod made;
 mod name_sets;
 mod names;
+mod results;
 mod scopes;
 mod simple_types;
 mod statements;

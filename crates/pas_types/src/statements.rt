@@ -1,5 +1,5 @@
 //! Statements (ISO 7185, 6.8, in this project's profile).
-ghost use Rattle.std.specs.Prelude.{◌≡◌, ℕ, List, [], ◌∷◌, ◌++◌, Some};
+ghost use Rattle.std.specs.Prelude.{◌≡◌, ℕ, true, List, [], ◌∷◌, ◌++◌, Some, IfOk, OnOk};
 ghost use Rattle.wb_base.specs.declared.faults.TheConstants.{WRONG_TYPE};
 ghost use Rattle.pas_tokens.specs.Cutting.{Wrong, wrong};
 ghost use Rattle.pas_syntax.specs.Tree as tree;
@@ -22,7 +22,7 @@ ghost use Rattle.pas_types.specs.inner.FlowViews.{Goes, IsPlain, IsStatement, Is
 
 use crate::assignments::assignment_of;
 use crate::calls::call_of;
-use crate::cases::case_of;
+use crate::cases::{arms_of, case_of, line_behind, others_of, selector_of};
 use crate::expressions::value_of;
 use crate::flow::Flow;
 use crate::judged::Judged;
@@ -42,10 +42,12 @@ use wb_base::faults::{UNKNOWN_NAME, WRONG_TYPE};
 
 // The value that was found, where one more rule is to hold.
 pub(crate) fn fit(found: Judged<Value>, holds: bool) -> Result<Value, Stop>
-    ensures { (words : List Word) (demand : typed.Value → List Wrong) (part : SpecJudged typed.Value)
+    ensures settles { (words : List Word) (demand : typed.Value → List Wrong) (part : SpecJudged typed.Value)
         → EndsAs words part (value_view found.value) (end_in found.end)
         → demand (value_view found.value) ≡ unless holds (wrong WRONG_TYPE)
         → Settles words (checked demand part) value_view result }
+    ensures value { IfOk result (λ value. value ≡ found.value) }
+    ensures holds { OnOk result (holds ≡ true) }
 {
     found.noted(holds, WRONG_TYPE).settled()
 }
@@ -209,14 +211,11 @@ fn plain_of(scopes: &Scopes<'_>, flow: &mut Flow<'_>, plain: &Plain) -> Result<S
             Ok(if_else(scopes.alloc, test, chosen, other)?)
         }
         Plain::Case(guard, elements, others, end) => {
-            case_of(
-                scopes,
-                flow,
-                guard.get(),
-                elements.get(),
-                others.get(),
-                *end,
-            )
+            let (selector, base) = selector_of(scopes, guard.get())?;
+            let arms = arms_of(scopes, flow, base, elements.get());
+            let arms = before(line_behind(others.get(), *end), arms)?;
+            let others = others_of(scopes, flow, others.get(), *end)?;
+            Ok(case_of(scopes.alloc, selector, arms, others)?)
         }
         Plain::While(guard, body) => while_of(scopes, flow, guard.get(), body.get()),
         Plain::Repeat(_, list, until) => repeat_of(scopes, flow, list.get(), until.get()),

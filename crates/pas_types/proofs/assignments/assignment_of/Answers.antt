@@ -75,7 +75,7 @@ returns-in_err-value c clear n =
     (assignment_of s.outer.types (target_of s v) (value_of s e)) (statement_view spellings) why
     c.from_residual-in_err-value.result (err_from_is_err_and _ c.from_residual-in_err-value.ensures.1)
     (value_stops s n v becomes e target why (c.in_ok-target.ensures clear n)
-    (c.in_err-value.ensures (expr_words n 0 e) demand (value_of s e) (c.in_ok-found.ensures clear n 0) fine))
+    (c.in_err-value.ensures.settles (expr_words n 0 e) demand (value_of s e) (c.in_ok-found.ensures clear n 0) fine))
 
 pub returns-in_ok-assigns-in-Place : goal.returns-in_ok-assigns-in-Place
 returns-in_ok-assigns-in-Place c clear n =
@@ -95,7 +95,7 @@ returns-in_ok-assigns-in-Place c clear n =
     (ap (λ (found : CodeTarget). assigned (target_view found) value) c.in-Place.is
     ∙ sym (c.in_ok-assigns-in-Place.ensures spellings))
     (assignment_means s n v becomes e target value (c.in_ok-target.ensures clear n)
-    (c.in_ok-value.ensures (expr_words n 0 e) demand (value_of s e) (c.in_ok-found.ensures clear n 0) fine))
+    (c.in_ok-value.ensures.settles (expr_words n 0 e) demand (value_of s e) (c.in_ok-found.ensures clear n 0) fine))
 
 pub returns-in_ok-sets_result-in-Result : goal.returns-in_ok-sets_result-in-Result
 returns-in_ok-sets_result-in-Result c clear n =
@@ -115,4 +115,4 @@ returns-in_ok-sets_result-in-Result c clear n =
     (ap (λ (found : CodeTarget). assigned (target_view found) value) c.in-Result.is
     ∙ sym (c.in_ok-sets_result-in-Result.ensures spellings))
     (assignment_means s n v becomes e target value (c.in_ok-target.ensures clear n)
-    (c.in_ok-value.ensures (expr_words n 0 e) demand (value_of s e) (c.in_ok-found.ensures clear n 0) fine))
+    (c.in_ok-value.ensures.settles (expr_words n 0 e) demand (value_of s e) (c.in_ok-found.ensures clear n 0) fine))

@@ -33,7 +33,7 @@ returns c clear n =
     let words : List Word = expr_words n 0 (expr_in spellings c.args.expr.now) in
     let part : Judged Value = value_of (scopes_view c.args.scopes.now) (expr_in spellings c.args.expr.now) in
     let demand : Value → List Wrong = only boolean (table_view spellings c.args.scopes.now.types) in
-    c.fit.ensures words demand part (c.in_ok-found.ensures clear n 0)
+    c.fit.ensures.settles words demand part (c.in_ok-found.ensures clear n 0)
     (ap (λ (type : PasType). unless (is_of boolean (table_view spellings c.args.scopes.now.types) type)
     (wrong WRONG_TYPE)) c.pas_type.ensures
     ∙ ap (λ (holds : Bool). unless holds (wrong WRONG_TYPE)) (c.is_of-is_boolean.ensures spellings))

@@ -34,7 +34,7 @@ returns c clear n =
     let words : List Word = expr_words n 0 (expr_in spellings c.args.expr.now) in
     let part : Judged Value = value_of (scopes_view c.args.scopes.now) (expr_in spellings c.args.expr.now) in
     let demand : Value → List Wrong = fits_slot (table_view spellings c.args.scopes.now.types) (Some (slot_view c.args.slot)) in
-    c.fit.ensures words demand part (c.in_ok-found.ensures clear n 0)
+    c.fit.ensures.settles words demand part (c.in_ok-found.ensures clear n 0)
     (ap (λ (type : PasType). unless (are_compatible (table_view spellings c.args.scopes.now.types) (type_view c.args.slot.pas_type) type)
     (wrong WRONG_TYPE)) c.pas_type.ensures
     ∙ ap (λ (holds : Bool). unless holds (wrong WRONG_TYPE)) (c.are_compatible-is_fit.ensures spellings))

@@ -1,46 +1,57 @@
 use Rattle.std.proofs.Common.{◌≡◌, ◌∙◌, refl, sym, ap, subst, ℕ, ◌+◌, List, [], ◌∷◌, ◌++◌, Ok, Err, Some}
-use Rattle.std.proofs.Common.{Option, Result, map, take, drop, suc}
-use Rattle.std.specs.Prelude.{OnOk}
+use Rattle.std.proofs.Common.{rules, Option, None, Result, map, take, drop, suc}
+use Rattle.std.specs.Prelude.{ℤ, OnOk, unwrap_or}
 use Rattle.std.proofs.lemmas.Result.{err_from_is_err_and}
 use Rattle.pas_tokens.specs.Cutting.{Wrong}
 use Rattle.pas_syntax.specs.declared.tree.MoreStatement as code_more
 use Rattle.pas_syntax.specs.declared.tree.Plain as code_plain
 use Rattle.pas_syntax.specs.declared.tree.Statement as code_tree_statement
 use Rattle.pas_syntax.specs.declared.tree.Statements as code_statements
+use Rattle.pas_syntax.specs.declared.tree.MoreElement as code_more_element
+use Rattle.pas_syntax.specs.declared.tree.Elements as code_elements
+use Rattle.pas_syntax.specs.declared.tree.Others as code_others
 use Rattle.pas_syntax.specs.declared.tree.Guard.{Guard}
 use Rattle.pas_syntax.specs.declared.tree.ForHead.{ForHead as CodeForHead}
 use Rattle.pas_syntax.specs.declared.tree.ProcedureCall.{ProcedureCall}
 use Rattle.pas_syntax.specs.declared.tree.Others.TheViews.{out-Compound, out-Statements, out-MoreStatement}
+use Rattle.pas_syntax.specs.declared.tree.Others.TheViews.{out-Elements, out-MoreElement}
 use Rattle.pas_syntax.specs.Tree as tree
-use Rattle.pas_syntax.specs.Tree.{Numeral, Expr, Plain, Statement, Statements, Compound}
+use Rattle.pas_syntax.specs.Tree.{Numeral, Expr, Plain, Statement, Statements, Compound, Elements, Others}
 use Rattle.pas_syntax.specs.Views.{in_turn, expr_in, ident_in, numeral_in, if_there}
 use Rattle.pas_syntax.specs.Words.{plain_words, statement_words, statements_words, expr_words, number_at}
+use Rattle.pas_syntax.specs.Words.{elements_words, others_words}
 use Rattle.pas_syntax.specs.ProgramViews.{arguments_in, plain_in, statement_in, statements_in, more_statement_in}
-use Rattle.pas_syntax.specs.ProgramViews.{elements_in, others_in}
+use Rattle.pas_syntax.specs.ProgramViews.{Arm, element_in, elements_in, more_element_in, others_in}
 use Rattle.pas_syntax.specs.inner.StatementReaders.{ForHead}
 use Rattle.pas_syntax.specs.inner.StatementViews.{for_head_in, assignment_in}
-use Rattle.pas_syntax.proofs.StatementSeen.{unlabelled_seen, goto_seen, assignment_seen, plain_compound_seen}
+use Rattle.pas_syntax.proofs.StatementSeen.{others_seen, unlabelled_seen, goto_seen, assignment_seen, plain_compound_seen}
 use Rattle.pas_typed.specs.declared.typed.Labelled as code_labelled
 use Rattle.pas_typed.specs.declared.typed.Statement as code_statement
 use Rattle.pas_typed.specs.declared.typed.Statement.TheViews.{roll-Labelled}
 use Rattle.pas_typed.specs.Typed as typed
-use Rattle.pas_typed.specs.Typed.{Slot, Value}
+use Rattle.pas_typed.specs.Typed.{Slot, Value, Arms}
+use Rattle.pas_typed.specs.declared.typed.Arm as code_arm
+use Rattle.pas_typed.specs.Types.{Base}
+use Rattle.pas_typed.specs.TypeViews.{base_view}
+use Rattle.pas_typed.specs.TypedViews.{arm_view, arms_view}
 use Rattle.pas_typed.specs.TypedViews.{statement_view, statements_view, value_view, slot_view, labelled_view}
-use Rattle.pas_typed.proofs.StatementViews.{statement_view-Compound, labelled_view-roll}
+use Rattle.pas_typed.proofs.StatementViews.{statement_view-Compound, labelled_view-roll, arm_view-roll}
 use Rattle.pas_types.specs.declared.flow.Flow.{Flow}
 use Rattle.pas_types.specs.declared.scopes.Scopes.{Scopes as CodeScopes}
 use Rattle.pas_types.specs.declared.stop.Stop.{Stop}
 use Rattle.pas_types.specs.Marks.{Judged, checked}
 use Rattle.pas_types.specs.Scopes.{Scopes, entity_of}
 use Rattle.pas_types.specs.Labels.{Spot, in_list, elsewhere, label_faults, goto_of, labels_in, labels_at}
-use Rattle.pas_types.specs.Labels.{labels_in_list, labels_of_list}
-use Rattle.pas_types.specs.Expressions.{value_of}
+use Rattle.pas_types.specs.Labels.{labels_in_list, labels_in_elements, labels_in_others, labels_of_list}
+use Rattle.pas_types.specs.Expressions.{ordinal_only, value_of}
 use Rattle.pas_types.specs.Statements.{plain_of, statement_of, statements_of, label_of, test_of, fits_slot}
+use Rattle.pas_types.specs.Statements.{constants_of, values_known, arms_of, others_of}
 use Rattle.pas_types.specs.ScopeViews.{scopes_view}
 use Rattle.pas_types.specs.inner.Ends.{lowest_of}
 use Rattle.pas_types.specs.inner.Stopping.{found_before}
 use Rattle.pas_types.specs.inner.Answers.{stands_at, Means, ShowsBy, Settles}
 use Rattle.pas_types.specs.inner.LabelViews.{Known, spot_in, standing_faults}
+use Rattle.pas_types.specs.inner.CaseViews.{arm_part, arm_words, others_view, behind_elements}
 use Rattle.pas_types.specs.inner.FlowViews.{IsFlow, IsPlain, listed_statement, ShowsBefore}
 use Rattle.pas_types.proofs.AnswerLemmas.{before_found}
 use Rattle.pas_types.proofs.LabelRules.{standing_known}
@@ -59,11 +70,17 @@ use Rattle.pas_types.proofs.StatementParts.{compound_stops, compound_means, if_s
 use Rattle.pas_types.proofs.StatementParts.{while_stops, while_part_stops, while_means, repeat_stops}
 use Rattle.pas_types.proofs.StatementParts.{repeat_test_stops, repeat_means, for_slot_stops, for_first_stops}
 use Rattle.pas_types.proofs.StatementParts.{for_last_stops, for_body_stops, for_means}
-use Rattle.pas_types.proofs.statements.+statement.Goals as goal
+use Rattle.pas_types.proofs.TargetLemmas.{precedes_stop}
+use Rattle.pas_types.proofs.CaseLemmas.{known_anyhow}
+use Rattle.pas_types.proofs.CaseParts.{choices_fail, chosen_stops, arm_means, arm_seen_in, element_is, others_stop}
+use Rattle.pas_types.proofs.CaseParts.{others_mean, AreArmsSoFar, arms_so_far, first_arm, first_arm_so_far, arm_at}
+use Rattle.pas_types.proofs.CaseParts.{next_arm_so_far, one_arm_taken, all_arms_taken, arms_seen, arms_stop}
+use Rattle.pas_types.proofs.CaseParts.{selector_stops, case_arms_stop, case_others_stop, case_means}
+use Rattle.pas_types.proofs.+statement.Goals as goal
 
 -- `compound`
-pub compound_of-returns-in_err-list-clause-means : goal.compound_of-returns-in_err-list-clause-means
-compound_of-returns-in_err-list-clause-means t c begin around before flow clear n =
+pub statements::compound_of-returns-in_err-list-clause-means : goal.statements::compound_of-returns-in_err-list-clause-means
+statements::compound_of-returns-in_err-list-clause-means t c begin around before flow clear n =
     let spellings = c.args.scopes.now.spellings.now in
     let s : Scopes = scopes_view c.args.scopes.now in
     let list : Statements = statements_in spellings c.args.list.now in
@@ -77,8 +94,8 @@ compound_of-returns-in_err-list-clause-means t c begin around before flow clear 
     (statements_view spellings) end why c.statements_of.result c.in_err-list.ensures
     (c.statements_of.ensures.means around before flow clear (n + 1))))
 
-pub compound_of-returns-clause-means : goal.compound_of-returns-clause-means
-compound_of-returns-clause-means t c begin around before flow clear n =
+pub statements::compound_of-returns-clause-means : goal.statements::compound_of-returns-clause-means
+statements::compound_of-returns-clause-means t c begin around before flow clear n =
     let spellings = c.args.scopes.now.spellings.now in
     let s : Scopes = scopes_view c.args.scopes.now in
     let list : Statements = statements_in spellings c.args.list.now in
@@ -93,8 +110,8 @@ compound_of-returns-clause-means t c begin around before flow clear n =
     (c.statements_of.ensures.means around before flow clear (n + 1))))
 
 -- `if`
-pub if_of-returns-in_err-test-clause-means : goal.if_of-returns-in_err-test-clause-means
-if_of-returns-in_err-test-clause-means t c around before flow clear n =
+pub statements::if_of-returns-in_err-test-clause-means : goal.statements::if_of-returns-in_err-test-clause-means
+statements::if_of-returns-in_err-test-clause-means t c around before flow clear n =
     let spellings = c.args.scopes.now.spellings.now in
     let s : Scopes = scopes_view c.args.scopes.now in
     let e : Expr = expr_in spellings c.args.guard.now.value in
@@ -107,8 +124,8 @@ if_of-returns-in_err-test-clause-means t c around before flow clear n =
     (err_from_is_err_and _ c.from_residual.ensures.1)
     (if_stops s around before n line e behind part why (c.in_err-test.ensures clear (n + 1)))
 
-pub if_of-returns-in_err-chosen-clause-means : goal.if_of-returns-in_err-chosen-clause-means
-if_of-returns-in_err-chosen-clause-means t c around before flow clear n =
+pub statements::if_of-returns-in_err-chosen-clause-means : goal.statements::if_of-returns-in_err-chosen-clause-means
+statements::if_of-returns-in_err-chosen-clause-means t c around before flow clear n =
     let spellings = c.args.scopes.now.spellings.now in
     let s : Scopes = scopes_view c.args.scopes.now in
     let e : Expr = expr_in spellings c.args.guard.now.value in
@@ -122,8 +139,8 @@ if_of-returns-in_err-chosen-clause-means t c around before flow clear n =
     (if_part_stops s around before n line e behind part (value_view c.in_ok-test.test) why
     (c.in_ok-test.ensures clear (n + 1)) (c.in_err-chosen.ensures.means around before flow clear (n + 1)))
 
-pub if_of-returns-clause-means : goal.if_of-returns-clause-means
-if_of-returns-clause-means t c around before flow clear n =
+pub statements::if_of-returns-clause-means : goal.statements::if_of-returns-clause-means
+statements::if_of-returns-clause-means t c around before flow clear n =
     let spellings = c.args.scopes.now.spellings.now in
     let s : Scopes = scopes_view c.args.scopes.now in
     let e : Expr = expr_in spellings c.args.guard.now.value in
@@ -137,8 +154,8 @@ if_of-returns-clause-means t c around before flow clear n =
     (c.in_ok-chosen.ensures.means around before flow clear (n + 1)))
 
 -- `while`
-pub while_of-returns-in_err-test-clause-means : goal.while_of-returns-in_err-test-clause-means
-while_of-returns-in_err-test-clause-means t c around before flow clear n =
+pub statements::while_of-returns-in_err-test-clause-means : goal.statements::while_of-returns-in_err-test-clause-means
+statements::while_of-returns-in_err-test-clause-means t c around before flow clear n =
     let spellings = c.args.scopes.now.spellings.now in
     let s : Scopes = scopes_view c.args.scopes.now in
     let e : Expr = expr_in spellings c.args.guard.now.value in
@@ -151,8 +168,8 @@ while_of-returns-in_err-test-clause-means t c around before flow clear n =
     (err_from_is_err_and _ c.from_residual.ensures.1)
     (while_stops s around before n line e behind part why (c.in_err-test.ensures clear (n + 1)))
 
-pub while_of-returns-in_err-body-clause-means : goal.while_of-returns-in_err-body-clause-means
-while_of-returns-in_err-body-clause-means t c around before flow clear n =
+pub statements::while_of-returns-in_err-body-clause-means : goal.statements::while_of-returns-in_err-body-clause-means
+statements::while_of-returns-in_err-body-clause-means t c around before flow clear n =
     let spellings = c.args.scopes.now.spellings.now in
     let s : Scopes = scopes_view c.args.scopes.now in
     let e : Expr = expr_in spellings c.args.guard.now.value in
@@ -166,8 +183,8 @@ while_of-returns-in_err-body-clause-means t c around before flow clear n =
     (while_part_stops s around before n line e behind part (value_view c.in_ok-test.test) why
     (c.in_ok-test.ensures clear (n + 1)) (c.in_err-body.ensures.means around before flow clear (n + 1)))
 
-pub while_of-returns-clause-means : goal.while_of-returns-clause-means
-while_of-returns-clause-means t c around before flow clear n =
+pub statements::while_of-returns-clause-means : goal.statements::while_of-returns-clause-means
+statements::while_of-returns-clause-means t c around before flow clear n =
     let spellings = c.args.scopes.now.spellings.now in
     let s : Scopes = scopes_view c.args.scopes.now in
     let e : Expr = expr_in spellings c.args.guard.now.value in
@@ -181,8 +198,8 @@ while_of-returns-clause-means t c around before flow clear n =
     (c.in_ok-body.ensures.means around before flow clear (n + 1)))
 
 -- `repeat`
-pub repeat_of-returns-in_err-list-clause-means : goal.repeat_of-returns-in_err-list-clause-means
-repeat_of-returns-in_err-list-clause-means t c line around before flow clear n =
+pub statements::repeat_of-returns-in_err-list-clause-means : goal.statements::repeat_of-returns-in_err-list-clause-means
+statements::repeat_of-returns-in_err-list-clause-means t c line around before flow clear n =
     let spellings = c.args.scopes.now.spellings.now in
     let s : Scopes = scopes_view c.args.scopes.now in
     let list : Statements = statements_in spellings c.args.list.now in
@@ -197,8 +214,8 @@ repeat_of-returns-in_err-list-clause-means t c line around before flow clear n =
     (statements_view spellings) until why c.statements_of.result c.in_err-list.ensures
     (c.statements_of.ensures.means around before flow clear (n + 1))))
 
-pub repeat_of-returns-in_err-test-clause-means : goal.repeat_of-returns-in_err-test-clause-means
-repeat_of-returns-in_err-test-clause-means t c line around before flow clear n =
+pub statements::repeat_of-returns-in_err-test-clause-means : goal.statements::repeat_of-returns-in_err-test-clause-means
+statements::repeat_of-returns-in_err-test-clause-means t c line around before flow clear n =
     let spellings = c.args.scopes.now.spellings.now in
     let s : Scopes = scopes_view c.args.scopes.now in
     let list : Statements = statements_in spellings c.args.list.now in
@@ -215,8 +232,8 @@ repeat_of-returns-in_err-test-clause-means t c line around before flow clear n =
     (c.statements_of.ensures.means around before flow clear (n + 1)))
     (c.in_err-test.ensures clear (n + 1)))
 
-pub repeat_of-returns-clause-means : goal.repeat_of-returns-clause-means
-repeat_of-returns-clause-means t c line around before flow clear n =
+pub statements::repeat_of-returns-clause-means : goal.statements::repeat_of-returns-clause-means
+statements::repeat_of-returns-clause-means t c line around before flow clear n =
     let spellings = c.args.scopes.now.spellings.now in
     let s : Scopes = scopes_view c.args.scopes.now in
     let list : Statements = statements_in spellings c.args.list.now in
@@ -233,8 +250,8 @@ repeat_of-returns-clause-means t c line around before flow clear n =
     (c.in_ok-test.ensures clear (n + 1)))
 
 -- lists
-pub statements_of-returns-in_err-found-clause-means : goal.statements_of-returns-in_err-found-clause-means
-statements_of-returns-in_err-found-clause-means t c around before flow clear n =
+pub statements::statements_of-returns-in_err-found-clause-means : goal.statements::statements_of-returns-in_err-found-clause-means
+statements::statements_of-returns-in_err-found-clause-means t c around before flow clear n =
     let spellings = c.args.scopes.now.spellings.now in
     let s : Scopes = scopes_view c.args.scopes.now in
     let list : Statements = statements_in spellings c.args.list.now in
@@ -246,16 +263,16 @@ statements_of-returns-in_err-found-clause-means t c around before flow clear n =
     (c.in_err-found.ensures.means (labels ++ around) before
     (enters s around before c.args.flow.now labels c.enter.new.self (c.in_ok-enter.ensures spellings) flow) clear n)
 
-pub statements_of-returns-clause-means : goal.statements_of-returns-clause-means
-statements_of-returns-clause-means t c around before flow clear n =
+pub statements::statements_of-returns-clause-means : goal.statements::statements_of-returns-clause-means
+statements::statements_of-returns-clause-means t c around before flow clear n =
     let spellings = c.args.scopes.now.spellings.now in
     let s : Scopes = scopes_view c.args.scopes.now in
     let labels : List ℕ = labels_of_list (statements_in spellings c.args.list.now) in
     c.in_ok-found.ensures.means (labels ++ around) before
     (enters s around before c.args.flow.now labels c.enter.new.self (c.in_ok-enter.ensures spellings) flow) clear n
 
-pub statements_of-returns-clause-goes : goal.statements_of-returns-clause-goes
-statements_of-returns-clause-goes t c around before flow =
+pub statements::statements_of-returns-clause-goes : goal.statements::statements_of-returns-clause-goes
+statements::statements_of-returns-clause-goes t c around before flow =
     let spellings = c.args.scopes.now.spellings.now in
     let s : Scopes = scopes_view c.args.scopes.now in
     let list : Statements = statements_in spellings c.args.list.now in
@@ -266,8 +283,8 @@ statements_of-returns-clause-goes t c around before flow =
     (enters s around before c.args.flow.now labels c.enter.new.self (c.in_ok-enter.ensures spellings) flow))
 
 -- a statement of a list
-pub labelled-returns-in_err-statement_of-clause-means : goal.labelled-returns-in_err-statement_of-clause-means
-labelled-returns-in_err-statement_of-clause-means t c around before flow clear n =
+pub statements::labelled-returns-in_err-statement_of-clause-means : goal.statements::labelled-returns-in_err-statement_of-clause-means
+statements::labelled-returns-in_err-statement_of-clause-means t c around before flow clear n =
     let spellings = c.args.scopes.now.spellings.now in
     let s : Scopes = scopes_view c.args.scopes.now in
     let part : Statement = statement_in spellings c.args.statement.now in
@@ -276,8 +293,8 @@ labelled-returns-in_err-statement_of-clause-means t c around before flow clear n
     c.from_residual.result (err_from_is_err_and _ c.from_residual.ensures.1)
     (c.in_err-statement_of.ensures.means around before flow clear n)
 
-pub labelled-returns-clause-means : goal.labelled-returns-clause-means
-labelled-returns-clause-means t c around before flow clear n =
+pub statements::labelled-returns-clause-means : goal.statements::labelled-returns-clause-means
+statements::labelled-returns-clause-means t c around before flow clear n =
     let spellings = c.args.scopes.now.spellings.now in
     let s : Scopes = scopes_view c.args.scopes.now in
     let part : Statement = statement_in spellings c.args.statement.now in
@@ -300,8 +317,8 @@ labelled-returns-clause-means t c around before flow clear n =
 abbrev first_of : List ℕ → code_statements.Statements → Statement
 first_of spellings list = statement_in spellings (out-Statements list).first
 
-pub in_turn-loop-next-init : goal.in_turn-loop-next-init
-in_turn-loop-next-init t c =
+pub statements::in_turn-loop-next-init : goal.statements::in_turn-loop-next-init
+statements::in_turn-loop-next-init t c =
     let spellings = c.args.scopes.now.spellings.now in
     subst (λ (statements : List code_labelled.Labelled). IsSoFar c.args.scopes.now c.args.flow.now
     c.labelled-found.new.flow (tree.first_statement (first_of spellings c.args.list.now)) statements
@@ -309,8 +326,8 @@ in_turn-loop-next-init t c =
     (first_so_far c.args.scopes.now c.args.flow.now c.labelled-found.new.flow (first_of spellings c.args.list.now)
     c.labelled-found.result c.labelled-found.ensures.means c.labelled-found.ensures.goes)
 
-pub in_turn-loop-next-preserved : goal.in_turn-loop-next-preserved
-in_turn-loop-next-preserved t c =
+pub statements::in_turn-loop-next-preserved : goal.statements::in_turn-loop-next-preserved
+statements::in_turn-loop-next-preserved t c =
     let spellings = c.args.scopes.now.spellings.now in
     let scopes = c.args.scopes.now in
     let old = c.args.flow.now in
@@ -335,8 +352,8 @@ in_turn-loop-next-preserved t c =
     c.loop-next.statements last found was c.labelled-found-in-loop-next.ensures.means
     c.labelled-found-in-loop-next.ensures.goes))
 
-pub in_turn-returns-in_err-before-clause-means : goal.in_turn-returns-in_err-before-clause-means
-in_turn-returns-in_err-before-clause-means t c around before flow clear n =
+pub statements::in_turn-returns-in_err-before-clause-means : goal.statements::in_turn-returns-in_err-before-clause-means
+statements::in_turn-returns-in_err-before-clause-means t c around before flow clear n =
     let spellings = c.args.scopes.now.spellings.now in
     let s : Scopes = scopes_view c.args.scopes.now in
     let first : Statement = first_of spellings c.args.list.now in
@@ -359,8 +376,8 @@ in_turn-returns-in_err-before-clause-means t c around before flow clear n =
     (λ last. statements_view spellings (c.loop-next.statements ++ last ∷ [])) line why c.loop-next.found
     c.in_err-before.ensures (c.loop-next.invariant.means around before flow clear n))))
 
-pub in_turn-returns-in_err-found-clause-means : goal.in_turn-returns-in_err-found-clause-means
-in_turn-returns-in_err-found-clause-means t c around before flow clear n =
+pub statements::in_turn-returns-in_err-found-clause-means : goal.statements::in_turn-returns-in_err-found-clause-means
+statements::in_turn-returns-in_err-found-clause-means t c around before flow clear n =
     let spellings = c.args.scopes.now.spellings.now in
     let s : Scopes = scopes_view c.args.scopes.now in
     let first : Statement = first_of spellings c.args.list.now in
@@ -379,8 +396,8 @@ in_turn-returns-in_err-found-clause-means t c around before flow clear n =
     (λ last. statements_view spellings (c.loop-next.statements ++ last ∷ []))) c.in_err-found.was
     (c.loop-next.invariant.means around before flow clear n)))
 
-pub in_turn-returns-clause-means : goal.in_turn-returns-clause-means
-in_turn-returns-clause-means t c around before flow clear n =
+pub statements::in_turn-returns-clause-means : goal.statements::in_turn-returns-clause-means
+statements::in_turn-returns-clause-means t c around before flow clear n =
     let spellings = c.args.scopes.now.spellings.now in
     let s : Scopes = scopes_view c.args.scopes.now in
     let first : Statement = first_of spellings c.args.list.now in
@@ -399,8 +416,8 @@ in_turn-returns-clause-means t c around before flow clear n =
     (λ last. statements_view spellings (c.loop-next.statements ++ last ∷ []))) c.in_ok-found.was
     (c.loop-next.invariant.means around before flow clear n)))
 
-pub in_turn-returns-clause-goes : goal.in_turn-returns-clause-goes
-in_turn-returns-clause-goes t c around before flow =
+pub statements::in_turn-returns-clause-goes : goal.statements::in_turn-returns-clause-goes
+statements::in_turn-returns-clause-goes t c around before flow =
     let spellings = c.args.scopes.now.spellings.now in
     let s : Scopes = scopes_view c.args.scopes.now in
     let first : Statement = first_of spellings c.args.list.now in
@@ -416,8 +433,8 @@ in_turn-returns-clause-goes t c around before flow =
     c.loop-next.flow)) c.in_ok-found.was (c.loop-next.invariant.goes around before flow))
 
 -- a statement, and one behind a label
-pub statement_of-returns-in-Unlabelled-clause-means : goal.statement_of-returns-in-Unlabelled-clause-means
-statement_of-returns-in-Unlabelled-clause-means t c around before flow clear n =
+pub statements::statement_of-returns-in-Unlabelled-clause-means : goal.statements::statement_of-returns-in-Unlabelled-clause-means
+statements::statement_of-returns-in-Unlabelled-clause-means t c around before flow clear n =
     let spellings = c.args.scopes.now.spellings.now in
     let s : Scopes = scopes_view c.args.scopes.now in
     subst (λ (part : Statement). Settles (statement_words n part)
@@ -425,9 +442,9 @@ statement_of-returns-in-Unlabelled-clause-means t c around before flow clear n =
     (sym (ap (statement_in spellings) c.in-Unlabelled.is ∙ unlabelled_seen spellings c.in-Unlabelled.plain))
     (c.plain_of.ensures.means around before flow clear n)
 
-pub statement_of-returns-in_err-stand-in-Labelled-clause-means :
-    goal.statement_of-returns-in_err-stand-in-Labelled-clause-means
-statement_of-returns-in_err-stand-in-Labelled-clause-means t c around before flow clear n =
+pub statements::statement_of-returns-in_err-stand-in-Labelled-clause-means :
+    goal.statements::statement_of-returns-in_err-stand-in-Labelled-clause-means
+statements::statement_of-returns-in_err-stand-in-Labelled-clause-means t c around before flow clear n =
     let spellings = c.args.scopes.now.spellings.now in
     let s : Scopes = scopes_view c.args.scopes.now in
     let spot : Spot = spot_in c.args.spot in
@@ -450,9 +467,9 @@ statement_of-returns-in_err-stand-in-Labelled-clause-means t c around before flo
     (c.in_err-stand-in-Labelled.ensures.answer
     ∙ ap (λ (found : List Wrong). stands_at numeral.line (lowest_of found)) faults)))
 
-pub statement_of-returns-in_ok-stand-in-Labelled-clause-means :
-    goal.statement_of-returns-in_ok-stand-in-Labelled-clause-means
-statement_of-returns-in_ok-stand-in-Labelled-clause-means t c around before flow clear n =
+pub statements::statement_of-returns-in_ok-stand-in-Labelled-clause-means :
+    goal.statements::statement_of-returns-in_ok-stand-in-Labelled-clause-means
+statements::statement_of-returns-in_ok-stand-in-Labelled-clause-means t c around before flow clear n =
     let spellings = c.args.scopes.now.spellings.now in
     let s : Scopes = scopes_view c.args.scopes.now in
     let spot : Spot = spot_in c.args.spot in
@@ -484,9 +501,9 @@ goes_on : {X : Type 0} (s : Scopes) (around before one other : List ℕ) (new : 
 goes_on s around before one other new (Ok x) h = regroup s around before new one other h
 goes_on s around before one other new (Err why) h = tt
 
-pub statement_of-returns-in_ok-stand-in-Labelled-clause-goes :
-    goal.statement_of-returns-in_ok-stand-in-Labelled-clause-goes
-statement_of-returns-in_ok-stand-in-Labelled-clause-goes t c around before flow =
+pub statements::statement_of-returns-in_ok-stand-in-Labelled-clause-goes :
+    goal.statements::statement_of-returns-in_ok-stand-in-Labelled-clause-goes
+statements::statement_of-returns-in_ok-stand-in-Labelled-clause-goes t c around before flow =
     let spellings = c.args.scopes.now.spellings.now in
     let s : Scopes = scopes_view c.args.scopes.now in
     let numeral : Numeral = numeral_in c.in-Labelled.label.numeral in
@@ -508,8 +525,8 @@ statement_of-returns-in_ok-stand-in-Labelled-clause-goes t c around before flow 
 abbrev limit : Scopes → Option Slot → Expr → Judged Value
 limit s slot e = checked (fits_slot s.outer.types slot) (value_of s e)
 
-pub for_of-returns-in_err-slot-clause-means : goal.for_of-returns-in_err-slot-clause-means
-for_of-returns-in_err-slot-clause-means t c around before flow clear n =
+pub statements::for_of-returns-in_err-slot-clause-means : goal.statements::for_of-returns-in_err-slot-clause-means
+statements::for_of-returns-in_err-slot-clause-means t c around before flow clear n =
     let spellings = c.args.scopes.now.spellings.now in
     let s : Scopes = scopes_view c.args.scopes.now in
     let h : ForHead = for_head_in spellings c.args.head.now in
@@ -521,8 +538,8 @@ for_of-returns-in_err-slot-clause-means t c around before flow clear n =
     (for_slot_stops s around before n h.line h.name h.becomes h.first h.toward h.last h.do_line part why
     (c.in_err-slot.ensures clear (n + 1) h.becomes))
 
-pub for_of-returns-in_err-first-clause-means : goal.for_of-returns-in_err-first-clause-means
-for_of-returns-in_err-first-clause-means t c around before flow clear n =
+pub statements::for_of-returns-in_err-first-clause-means : goal.statements::for_of-returns-in_err-first-clause-means
+statements::for_of-returns-in_err-first-clause-means t c around before flow clear n =
     let spellings = c.args.scopes.now.spellings.now in
     let s : Scopes = scopes_view c.args.scopes.now in
     let h : ForHead = for_head_in spellings c.args.head.now in
@@ -537,8 +554,8 @@ for_of-returns-in_err-first-clause-means t c around before flow clear n =
     (found_stops (expr_words (n + 1) 0 h.first) (limit s (Some slot) h.first) value_view h.toward.line why
     c.limit_of.result c.in_err-first.ensures (c.limit_of.ensures clear (n + 1))))
 
-pub for_of-returns-in_err-last-clause-means : goal.for_of-returns-in_err-last-clause-means
-for_of-returns-in_err-last-clause-means t c around before flow clear n =
+pub statements::for_of-returns-in_err-last-clause-means : goal.statements::for_of-returns-in_err-last-clause-means
+statements::for_of-returns-in_err-last-clause-means t c around before flow clear n =
     let spellings = c.args.scopes.now.spellings.now in
     let s : Scopes = scopes_view c.args.scopes.now in
     let h : ForHead = for_head_in spellings c.args.head.now in
@@ -555,8 +572,8 @@ for_of-returns-in_err-last-clause-means t c around before flow clear n =
     (found_stops (expr_words (n + 1) 0 h.last) (limit s (Some slot) h.last) value_view h.do_line why
     c.limit_of-2.result c.in_err-last.ensures (c.limit_of-2.ensures clear (n + 1))))
 
-pub for_of-returns-in_err-body-clause-means : goal.for_of-returns-in_err-body-clause-means
-for_of-returns-in_err-body-clause-means t c around before flow clear n =
+pub statements::for_of-returns-in_err-body-clause-means : goal.statements::for_of-returns-in_err-body-clause-means
+statements::for_of-returns-in_err-body-clause-means t c around before flow clear n =
     let spellings = c.args.scopes.now.spellings.now in
     let s : Scopes = scopes_view c.args.scopes.now in
     let h : ForHead = for_head_in spellings c.args.head.now in
@@ -575,8 +592,8 @@ for_of-returns-in_err-body-clause-means t c around before flow clear n =
     c.limit_of-2.result c.in_ok-last.ensures (c.limit_of-2.ensures clear (n + 1)))
     (c.in_err-body.ensures.means around before flow clear (n + 1)))
 
-pub for_of-returns-clause-means : goal.for_of-returns-clause-means
-for_of-returns-clause-means t c around before flow clear n =
+pub statements::for_of-returns-clause-means : goal.statements::for_of-returns-clause-means
+statements::for_of-returns-clause-means t c around before flow clear n =
     let spellings = c.args.scopes.now.spellings.now in
     let s : Scopes = scopes_view c.args.scopes.now in
     let h : ForHead = for_head_in spellings c.args.head.now in
@@ -599,8 +616,8 @@ moved : (scopes : CodeScopes) (flow : Flow) (s other : Plain) (result : Result c
     → s ≡ other → IsPlain scopes flow s result → IsPlain scopes flow other result
 moved scopes flow s other result is h = subst (λ (part : Plain). IsPlain scopes flow part result) is h
 
-pub plain_of-returns-in-Assignment-clause-means : goal.plain_of-returns-in-Assignment-clause-means
-plain_of-returns-in-Assignment-clause-means t c =
+pub statements::plain_of-returns-in-Assignment-clause-means : goal.statements::plain_of-returns-in-Assignment-clause-means
+statements::plain_of-returns-in-Assignment-clause-means t c =
     let spellings = c.args.scopes.now.spellings.now in
     moved c.args.scopes.now c.args.flow.now (assignment_in spellings c.get.result.now)
     (plain_in spellings c.args.plain.now) c.assignment_of.result
@@ -612,8 +629,8 @@ abbrev call_in : List ℕ → ProcedureCall → Plain
 call_in spellings call =
     tree.procedure_call (ident_in spellings call.name) (if_there (arguments_in spellings) call.arguments)
 
-pub plain_of-returns-in-Call-clause-means : goal.plain_of-returns-in-Call-clause-means
-plain_of-returns-in-Call-clause-means t c =
+pub statements::plain_of-returns-in-Call-clause-means : goal.statements::plain_of-returns-in-Call-clause-means
+statements::plain_of-returns-in-Call-clause-means t c =
     let spellings = c.args.scopes.now.spellings.now in
     moved c.args.scopes.now c.args.flow.now (call_in spellings c.get-in-Call.result.now)
     (plain_in spellings c.args.plain.now) c.call_of.result
@@ -621,8 +638,8 @@ plain_of-returns-in-Call-clause-means t c =
     ∙ sym (ap (plain_in spellings) c.in-Call.is ∙ called_seen spellings c.in-Call.call))
     (λ around before flow clear n. c.call_of.ensures clear n)
 
-pub plain_of-returns-in-Compound-clause-means : goal.plain_of-returns-in-Compound-clause-means
-plain_of-returns-in-Compound-clause-means t c =
+pub statements::plain_of-returns-in-Compound-clause-means : goal.statements::plain_of-returns-in-Compound-clause-means
+statements::plain_of-returns-in-Compound-clause-means t c =
     let spellings = c.args.scopes.now.spellings.now in
     let body = c.in-Compound.body in
     let begin = (out-Compound body).begin in
@@ -636,8 +653,8 @@ plain_of-returns-in-Compound-clause-means t c =
     ∙ ap (λ (b : Compound). tree.compound b.begin b.list b.end) (body_seen spellings body))))
     (c.compound_of.ensures.means begin)
 
-pub plain_of-returns-in-If-clause-means : goal.plain_of-returns-in-If-clause-means
-plain_of-returns-in-If-clause-means t c =
+pub statements::plain_of-returns-in-If-clause-means : goal.statements::plain_of-returns-in-If-clause-means
+statements::plain_of-returns-in-If-clause-means t c =
     let spellings = c.args.scopes.now.spellings.now in
     let one = c.get-in-If.result.now in
     moved c.args.scopes.now c.args.flow.now
@@ -648,8 +665,8 @@ plain_of-returns-in-If-clause-means t c =
     ∙ sym (ap (plain_in spellings) c.in-If.is ∙ if_seen spellings c.in-If.guard c.in-If.chosen))
     c.if_of.ensures.means
 
-pub plain_of-returns-in-While-clause-means : goal.plain_of-returns-in-While-clause-means
-plain_of-returns-in-While-clause-means t c =
+pub statements::plain_of-returns-in-While-clause-means : goal.statements::plain_of-returns-in-While-clause-means
+statements::plain_of-returns-in-While-clause-means t c =
     let spellings = c.args.scopes.now.spellings.now in
     let one = c.get-in-While.result.now in
     moved c.args.scopes.now c.args.flow.now
@@ -660,8 +677,8 @@ plain_of-returns-in-While-clause-means t c =
     ∙ sym (ap (plain_in spellings) c.in-While.is ∙ while_seen spellings c.in-While.guard c.in-While.body))
     c.while_of.ensures.means
 
-pub plain_of-returns-in-Repeat-clause-means : goal.plain_of-returns-in-Repeat-clause-means
-plain_of-returns-in-Repeat-clause-means t c =
+pub statements::plain_of-returns-in-Repeat-clause-means : goal.statements::plain_of-returns-in-Repeat-clause-means
+statements::plain_of-returns-in-Repeat-clause-means t c =
     let spellings = c.args.scopes.now.spellings.now in
     let line = c.in-Repeat.field-0 in
     moved c.args.scopes.now c.args.flow.now
@@ -678,8 +695,8 @@ counting_in spellings head part =
     let h = for_head_in spellings head in
     tree.for h.line h.name h.becomes h.first h.toward h.last h.do_line (statement_in spellings part)
 
-pub plain_of-returns-in-For-clause-means : goal.plain_of-returns-in-For-clause-means
-plain_of-returns-in-For-clause-means t c =
+pub statements::plain_of-returns-in-For-clause-means : goal.statements::plain_of-returns-in-For-clause-means
+statements::plain_of-returns-in-For-clause-means t c =
     let spellings = c.args.scopes.now.spellings.now in
     moved c.args.scopes.now c.args.flow.now
     (counting_in spellings c.get-in-For.result.now c.get-in-For-2.result.now)
@@ -688,8 +705,8 @@ plain_of-returns-in-For-clause-means t c =
     ∙ sym (ap (plain_in spellings) c.in-For.is ∙ for_seen spellings c.in-For.head c.in-For.body))
     c.for_of.ensures.means
 
-pub plain_of-returns-in-Goto-clause-means : goal.plain_of-returns-in-Goto-clause-means
-plain_of-returns-in-Goto-clause-means t c =
+pub statements::plain_of-returns-in-Goto-clause-means : goal.statements::plain_of-returns-in-Goto-clause-means
+statements::plain_of-returns-in-Goto-clause-means t c =
     let spellings = c.args.scopes.now.spellings.now in
     let s : Scopes = scopes_view c.args.scopes.now in
     let line = c.in-Goto.field-0 in
@@ -699,21 +716,6 @@ plain_of-returns-in-Goto-clause-means t c =
     (λ around before flow clear n.
     goto_settles s around before n line (number_at n numeral) (goto_of s around numeral.value)
     (statement_view spellings) c.goto_of.result (c.goto_of.ensures around before flow n))
-
-pub plain_of-returns-in-Case-clause-means : goal.plain_of-returns-in-Case-clause-means
-plain_of-returns-in-Case-clause-means t c =
-    let spellings = c.args.scopes.now.spellings.now in
-    let end = c.in-Case.end in
-    let one = c.get-in-Case.result.now in
-    moved c.args.scopes.now c.args.flow.now
-    (tree.case one.line (expr_in spellings one.value) one.behind (elements_in spellings c.get-in-Case-2.result.now)
-    (others_in spellings c.get-in-Case-3.result.now) end) (plain_in spellings c.args.plain.now) c.case_of.result
-    ((λ i. tree.case (c.get-in-Case.ensures i).line (expr_in spellings (c.get-in-Case.ensures i).value)
-    (c.get-in-Case.ensures i).behind (elements_in spellings (c.get-in-Case-2.ensures i))
-    (others_in spellings (c.get-in-Case-3.ensures i)) end)
-    ∙ sym (ap (plain_in spellings) c.in-Case.is
-    ∙ case_seen spellings c.in-Case.guard c.in-Case.elements c.in-Case.others end))
-    c.case_of.ensures.means
 
 -- `if` with `else`
 abbrev choice_in : List ℕ → Guard → code_tree_statement.Statement → ℕ → code_tree_statement.Statement → Plain
@@ -730,8 +732,8 @@ PartMeans s n spellings around before found part =
     Means (statement_words n (statement_in spellings part))
     (statement_of s elsewhere around before (statement_in spellings part)) found
 
-pub plain_of-returns-in_err-test-in-IfElse-clause-means : goal.plain_of-returns-in_err-test-in-IfElse-clause-means
-plain_of-returns-in_err-test-in-IfElse-clause-means t c around before flow clear n =
+pub statements::plain_of-returns-in_err-test-in-IfElse-clause-means : goal.statements::plain_of-returns-in_err-test-in-IfElse-clause-means
+statements::plain_of-returns-in_err-test-in-IfElse-clause-means t c around before flow clear n =
     let spellings = c.args.scopes.now.spellings.now in
     let s : Scopes = scopes_view c.args.scopes.now in
     let g = c.in-IfElse.guard in
@@ -750,8 +752,8 @@ plain_of-returns-in_err-test-in-IfElse-clause-means t c around before flow clear
     (test_of s (expr_in spellings guard.value)).marks why) c.get-in-IfElse.ensures
     (c.in_err-test-in-IfElse.ensures clear (n + 1)))))
 
-pub plain_of-returns-in_err-chosen-in-IfElse-clause-means : goal.plain_of-returns-in_err-chosen-in-IfElse-clause-means
-plain_of-returns-in_err-chosen-in-IfElse-clause-means t c around before flow clear n =
+pub statements::plain_of-returns-in_err-chosen-in-IfElse-clause-means : goal.statements::plain_of-returns-in_err-chosen-in-IfElse-clause-means
+statements::plain_of-returns-in_err-chosen-in-IfElse-clause-means t c around before flow clear n =
     let spellings = c.args.scopes.now.spellings.now in
     let s : Scopes = scopes_view c.args.scopes.now in
     let g = c.in-IfElse.guard in
@@ -787,8 +789,8 @@ before_other s around before labels new line last found is h =
     subst (λ (r : Result _ Stop). OnOk r (IsFlow s around (before ++ labels) new)) (sym (before_found line last found is))
     h
 
-pub plain_of-returns-in_err-other-in-IfElse-clause-means : goal.plain_of-returns-in_err-other-in-IfElse-clause-means
-plain_of-returns-in_err-other-in-IfElse-clause-means t c around before flow clear n =
+pub statements::plain_of-returns-in_err-other-in-IfElse-clause-means : goal.statements::plain_of-returns-in_err-other-in-IfElse-clause-means
+statements::plain_of-returns-in_err-other-in-IfElse-clause-means t c around before flow clear n =
     let spellings = c.args.scopes.now.spellings.now in
     let s : Scopes = scopes_view c.args.scopes.now in
     let g = c.in-IfElse.guard in
@@ -827,8 +829,8 @@ plain_of-returns-in_err-other-in-IfElse-clause-means t c around before flow clea
     c.get-in-IfElse-3.ensures
     (c.in_err-other-in-IfElse.ensures.means around (before ++ labels) behind clear (n + 1)))))
 
-pub plain_of-returns-in_ok-if_else-in-IfElse-clause-means : goal.plain_of-returns-in_ok-if_else-in-IfElse-clause-means
-plain_of-returns-in_ok-if_else-in-IfElse-clause-means t c around before flow clear n =
+pub statements::plain_of-returns-in_ok-if_else-in-IfElse-clause-means : goal.statements::plain_of-returns-in_ok-if_else-in-IfElse-clause-means
+statements::plain_of-returns-in_ok-if_else-in-IfElse-clause-means t c around before flow clear n =
     let spellings = c.args.scopes.now.spellings.now in
     let s : Scopes = scopes_view c.args.scopes.now in
     let g = c.in-IfElse.guard in
@@ -864,8 +866,8 @@ plain_of-returns-in_ok-if_else-in-IfElse-clause-means t c around before flow cle
     (subst (PartMeans s (n + 1) spellings around (before ++ labels) last) c.get-in-IfElse-3.ensures
     (c.in_ok-other-in-IfElse.ensures.means around (before ++ labels) behind clear (n + 1)))))
 
-pub plain_of-returns-in_ok-if_else-in-IfElse-clause-goes : goal.plain_of-returns-in_ok-if_else-in-IfElse-clause-goes
-plain_of-returns-in_ok-if_else-in-IfElse-clause-goes t c around before flow =
+pub statements::plain_of-returns-in_ok-if_else-in-IfElse-clause-goes : goal.statements::plain_of-returns-in_ok-if_else-in-IfElse-clause-goes
+statements::plain_of-returns-in_ok-if_else-in-IfElse-clause-goes t c around before flow =
     let spellings = c.args.scopes.now.spellings.now in
     let s : Scopes = scopes_view c.args.scopes.now in
     let g = c.in-IfElse.guard in
@@ -887,3 +889,434 @@ plain_of-returns-in_ok-if_else-in-IfElse-clause-goes t c around before flow =
     (subst (λ (part : code_tree_statement.Statement). IsFlow s around
     ((before ++ labels) ++ labels_at (statement_in spellings part)) new) c.get-in-IfElse-3.ensures
     (c.in_ok-other-in-IfElse.ensures.goes around (before ++ labels) behind)))
+
+-- elements of a case
+pub cases::arm_of-returns-in_err-constants-clause-means : goal.cases::arm_of-returns-in_err-constants-clause-means
+cases::arm_of-returns-in_err-constants-clause-means t c around before flow clear n =
+    let spellings = c.args.scopes.now.spellings.now in
+    let s : Scopes = scopes_view c.args.scopes.now in
+    let base : Base = base_view c.args.base in
+    let taken : List ℤ = c.args.taken.now.keys in
+    let arm : Arm = element_in spellings c.args.element.now in
+    let why = c.in_err-constants.field-0.0 in
+    let is : arm ≡ arm_seen_in spellings c.args.element.now = element_is spellings c.args.element.now in
+    settles_stop (arm_words n arm) (arm_part s around before base taken arm) (arm_view spellings) why
+    c.from_residual.result (err_from_is_err_and _ c.from_residual.ensures.1)
+    (subst (λ (arm : Arm). ShowsBy (arm_words n arm) (arm_part s around before base taken arm).marks why) (sym is)
+    (choices_fail s around before base taken n (arm_seen_in spellings c.args.element.now) why
+    (c.in_err-constants.ensures.means clear n)))
+
+pub cases::arm_of-returns-in_err-statement-clause-means : goal.cases::arm_of-returns-in_err-statement-clause-means
+cases::arm_of-returns-in_err-statement-clause-means t c around before flow clear n =
+    let spellings = c.args.scopes.now.spellings.now in
+    let s : Scopes = scopes_view c.args.scopes.now in
+    let base : Base = base_view c.args.base in
+    let taken : List ℤ = c.args.taken.now.keys in
+    let arm : Arm = element_in spellings c.args.element.now in
+    let why = c.in_err-statement.field-0.0 in
+    let is : arm ≡ arm_seen_in spellings c.args.element.now = element_is spellings c.args.element.now in
+    settles_stop (arm_words n arm) (arm_part s around before base taken arm) (arm_view spellings) why
+    c.from_residual-in_err-statement.result (err_from_is_err_and _ c.from_residual-in_err-statement.ensures.1)
+    (subst (λ (arm : Arm). ShowsBy (arm_words n arm) (arm_part s around before base taken arm).marks why) (sym is)
+    (chosen_stops s around before base taken n (arm_seen_in spellings c.args.element.now) c.in_ok-constants.constants
+    why (c.in_ok-constants.ensures.means clear n) (c.in_err-statement.ensures.means around before flow clear n)))
+
+pub cases::arm_of-returns-clause-means : goal.cases::arm_of-returns-clause-means
+cases::arm_of-returns-clause-means t c around before flow clear n =
+    let spellings = c.args.scopes.now.spellings.now in
+    let s : Scopes = scopes_view c.args.scopes.now in
+    let base : Base = base_view c.args.base in
+    let taken : List ℤ = c.args.taken.now.keys in
+    let arm : Arm = element_in spellings c.args.element.now in
+    let values : List ℤ = c.in_ok-constants.constants in
+    let found : typed.Statement = statement_view spellings c.in_ok-statement.statement in
+    let is : arm ≡ arm_seen_in spellings c.args.element.now = element_is spellings c.args.element.now in
+    subst (λ (make : Arms → Arms). Means (arm_words n arm) (arm_part s around before base taken arm) make)
+    (sym (arm_view-roll spellings (record {
+      constants = c.in_ok-constants.constants;
+      statement = c.in_ok-statement.statement;
+    })))
+    (subst (λ (arm : Arm). Means (arm_words n arm) (arm_part s around before base taken arm)
+    (λ others. typed.arm values found others)) (sym is)
+    (arm_means s around before base taken n (arm_seen_in spellings c.args.element.now) values found
+    (c.in_ok-constants.ensures.means clear n) (c.in_ok-statement.ensures.means around before flow clear n)))
+
+pub cases::arm_of-returns-clause-taken : goal.cases::arm_of-returns-clause-taken
+cases::arm_of-returns-clause-taken t c clear =
+    let spellings = c.args.scopes.now.spellings.now in
+    let s : Scopes = scopes_view c.args.scopes.now in
+    let taken : List ℤ = c.args.taken.now.keys in
+    let is : element_in spellings c.args.element.now ≡ arm_seen_in spellings c.args.element.now =
+    element_is spellings c.args.element.now in
+    c.in_ok-constants.ensures.taken
+    ∙ (ap (λ (values : List ℤ). taken ++ values)
+    (sym (known_anyhow s (base_view c.args.base) taken (arm_seen_in spellings c.args.element.now).constants
+    c.in_ok-constants.constants (c.in_ok-constants.ensures.means clear 0).known))
+    ∙ ap (λ (arm : Arm). taken ++ values_known (constants_of s None [] arm.constants)) (sym is))
+
+pub cases::others_of-returns-in_ok-before-in-Others-clause-means :
+    goal.cases::others_of-returns-in_ok-before-in-Others-clause-means
+cases::others_of-returns-in_ok-before-in-Others-clause-means t c around before flow clear n =
+    let spellings = c.args.scopes.now.spellings.now in
+    let s : Scopes = scopes_view c.args.scopes.now in
+    let head = c.in-Others.field-0 in
+    let part = c.in-Others.chosen in
+    let semicolon = c.in-Others.semicolon in
+    let got = c.get.result.now in
+    let line = c.unwrap_or.result in
+    let found = c.in_ok-before-in-Others.field-0 in
+    let whole : Others = others_in spellings c.args.others.now in
+    let is : whole ≡ tree.others head.semicolon head.line head.colon (statement_in spellings part) semicolon =
+    ap (others_in spellings) c.in-Others.is ∙ others_seen spellings head part semicolon in
+    subst (λ (tail : Others). Means (others_words n tail) (others_of s around before tail)
+    (λ selector arms. typed.case_others selector arms (statement_view spellings found))) (sym is)
+    (others_mean s around before n head.semicolon head.line head.colon (statement_in spellings part) c.args.end
+    semicolon (statement_view spellings found)
+    (subst (PartMeans s n spellings around before (statement_view spellings found)) c.get.ensures
+    (found_means (statement_words n (statement_in spellings got))
+    (statement_of s elsewhere around before (statement_in spellings got)) (statement_view spellings) line found
+    c.statement_of-chosen.result c.in_ok-before-in-Others.ensures
+    (c.statement_of-chosen.ensures.means around before flow clear n))))
+
+pub cases::others_of-returns-in_err-before-in-Others-clause-means :
+    goal.cases::others_of-returns-in_err-before-in-Others-clause-means
+cases::others_of-returns-in_err-before-in-Others-clause-means t c around before flow clear n =
+    let spellings = c.args.scopes.now.spellings.now in
+    let s : Scopes = scopes_view c.args.scopes.now in
+    let head = c.in-Others.field-0 in
+    let part = c.in-Others.chosen in
+    let semicolon = c.in-Others.semicolon in
+    let got = c.get.result.now in
+    let line = c.unwrap_or.result in
+    let end = c.args.end in
+    let whole : Others = others_in spellings c.args.others.now in
+    let why = c.in_err-before-in-Others.field-0.0 in
+    let is : whole ≡ tree.others head.semicolon head.line head.colon (statement_in spellings part) semicolon =
+    ap (others_in spellings) c.in-Others.is ∙ others_seen spellings head part semicolon in
+    let at : line ≡ unwrap_or semicolon end = search rules in
+    precedes_stop end (others_words n whole) (others_of s around before whole) (others_view spellings) why
+    c.from_residual.result (err_from_is_err_and _ c.from_residual.ensures.1)
+    (subst (λ (tail : Others). ShowsBefore end (others_words n tail) (others_of s around before tail).marks why) (sym is)
+    (others_stop s around before n head.semicolon head.line head.colon (statement_in spellings part) end semicolon why
+    (subst (λ (line : ℕ). ShowsBefore line (statement_words n (statement_in spellings part))
+    (statement_of s elsewhere around before (statement_in spellings part)).marks why) at
+    (subst (λ (part : code_tree_statement.Statement). ShowsBefore line (statement_words n (statement_in spellings part))
+    (statement_of s elsewhere around before (statement_in spellings part)).marks why) c.get.ensures
+    (found_stops (statement_words n (statement_in spellings got))
+    (statement_of s elsewhere around before (statement_in spellings got)) (statement_view spellings) line why
+    c.statement_of-chosen.result c.in_err-before-in-Others.ensures
+    (c.statement_of-chosen.ensures.means around before flow clear n))))))
+
+-- all elements
+abbrev first_arm_of : List ℕ → code_elements.Elements → Arm
+first_arm_of spellings elements = element_in spellings (out-Elements elements).first
+
+pub cases::arms_of-loop-next-init : goal.cases::arms_of-loop-next-init
+cases::arms_of-loop-next-init t c =
+    let spellings = c.args.scopes.now.spellings.now in
+    let arm : Arm = first_arm_of spellings c.args.elements.now in
+    let none : c.new-taken.result.keys ≡ [] = c.new-taken.ensures.empty in
+    subst (λ (arms : List code_arm.Arm). AreArmsSoFar c.args.scopes.now c.args.flow.now c.arm_of-found.new.flow
+    c.args.base (first_arm spellings arm) arms c.arm_of-found.new.taken.keys c.arm_of-found.result)
+    (sym c.new-arms.ensures)
+    (first_arm_so_far c.args.scopes.now c.args.base c.args.flow.now c.arm_of-found.new.flow arm
+    c.new-taken.result.keys c.arm_of-found.new.taken.keys c.arm_of-found.result none c.arm_of-found.ensures.means
+    c.arm_of-found.ensures.goes c.arm_of-found.ensures.taken)
+
+pub cases::arms_of-loop-next-preserved : goal.cases::arms_of-loop-next-preserved
+cases::arms_of-loop-next-preserved t c =
+    let spellings = c.args.scopes.now.spellings.now in
+    let scopes = c.args.scopes.now in
+    let base = c.args.base in
+    let old = c.args.flow.now in
+    let here = c.loop-next.flow in
+    let new = c.arm_of-found-in-loop-next.new.flow in
+    let first : Arm = first_arm_of spellings c.args.elements.now in
+    let items : List code_more_element.MoreElement = c.as_slice-next-items.result.now in
+    let index = c.loop-next.next-index in
+    let next : code_more_element.MoreElement = c.next-item.result in
+    let line = (out-MoreElement next).line in
+    let last = c.in_ok-before.field-0 in
+    let taken : List ℤ = c.loop-next.taken.keys in
+    let then_taken : List ℤ = c.arm_of-found-in-loop-next.new.taken.keys in
+    let found : Result code_arm.Arm Stop = c.arm_of-found-in-loop-next.result in
+    let elements : Elements = arms_so_far spellings first (take index items) in
+    let was : AreArmsSoFar scopes old here base elements c.loop-next.arms taken (Ok last) =
+    subst (λ (r : Result code_arm.Arm Stop). AreArmsSoFar scopes old here base elements c.loop-next.arms taken r)
+    (sym (before_found line last c.loop-next.found c.in_ok-before.ensures)) c.loop-next.invariant in
+    subst (λ (arms : List code_arm.Arm). AreArmsSoFar scopes old new base
+    (arms_so_far spellings first (take (index + 1) items)) arms then_taken found) (sym c.in_ok-push.ensures.ok)
+    (subst (λ (whole : Elements). AreArmsSoFar scopes old new base whole (c.loop-next.arms ++ last ∷ []) then_taken
+    found) (sym (one_arm_taken spellings first items index next c.loop-next-test.true c.next-item.is))
+    (next_arm_so_far scopes base old here new elements line (arm_at spellings next) c.loop-next.arms taken then_taken last
+    found was c.arm_of-found-in-loop-next.ensures.means c.arm_of-found-in-loop-next.ensures.goes
+    c.arm_of-found-in-loop-next.ensures.taken))
+
+pub cases::arms_of-returns-in_err-before-clause-means : goal.cases::arms_of-returns-in_err-before-clause-means
+cases::arms_of-returns-in_err-before-clause-means t c around before flow clear n =
+    let spellings = c.args.scopes.now.spellings.now in
+    let s : Scopes = scopes_view c.args.scopes.now in
+    let base : Base = base_view c.args.base in
+    let first : Arm = first_arm_of spellings c.args.elements.now in
+    let items : List code_more_element.MoreElement = c.as_slice-next-items.result.now in
+    let index = c.loop-next.next-index in
+    let next : code_more_element.MoreElement = c.next-item.result in
+    let line = (out-MoreElement next).line in
+    let elements : Elements = arms_so_far spellings first (take index items) in
+    let whole : Elements = elements_in spellings c.args.elements.now in
+    let why = c.in_err-before.field-0.0 in
+    let is : whole ≡ in_turn elements (map (more_element_in spellings) (next ∷ drop (suc index) items)) =
+    arms_seen spellings c.args.elements.now
+    ∙ (ap (arms_so_far spellings first) (sym c.as_slice-next-items.ensures)
+    ∙ all_arms_taken spellings first items index next c.loop-next-test.true c.next-item.is) in
+    settles_stop (elements_words n whole) (arms_of s around before (Some base) whole) (arms_view spellings) why
+    c.from_residual.result (err_from_is_err_and _ c.from_residual.ensures.1)
+    (subst (λ (l : Elements). ShowsBy (elements_words n l) (arms_of s around before (Some base) l).marks why) (sym is)
+    (arms_stop spellings s around before base n elements next (drop (suc index) items) why
+    (found_stops (elements_words n elements) (arms_of s around before (Some base) elements)
+    (λ last. arms_view spellings (c.loop-next.arms ++ last ∷ [])) line why c.loop-next.found
+    c.in_err-before.ensures (c.loop-next.invariant.means around before flow clear n))))
+
+pub cases::arms_of-returns-in_err-found-clause-means : goal.cases::arms_of-returns-in_err-found-clause-means
+cases::arms_of-returns-in_err-found-clause-means t c around before flow clear n =
+    let spellings = c.args.scopes.now.spellings.now in
+    let s : Scopes = scopes_view c.args.scopes.now in
+    let base : Base = base_view c.args.base in
+    let first : Arm = first_arm_of spellings c.args.elements.now in
+    let items : List code_more_element.MoreElement = c.as_slice-next-items.result.now in
+    let elements : Elements = arms_so_far spellings first (take c.loop-next.next-index items) in
+    let whole : Elements = elements_in spellings c.args.elements.now in
+    let why = c.in_err-found.field-0.0 in
+    let is : whole ≡ elements =
+    arms_seen spellings c.args.elements.now
+    ∙ ap (arms_so_far spellings first) (sym c.as_slice-next-items.ensures
+    ∙ sym (taken_all items c.loop-next.next-index c.loop-next-test.false)) in
+    settles_stop (elements_words n whole) (arms_of s around before (Some base) whole) (arms_view spellings) why
+    c.from_residual-in_err-found.result (err_from_is_err_and _ c.from_residual-in_err-found.ensures.1)
+    (subst (λ (l : Elements). ShowsBy (elements_words n l) (arms_of s around before (Some base) l).marks why) (sym is)
+    (subst (Settles (elements_words n elements) (arms_of s around before (Some base) elements)
+    (λ last. arms_view spellings (c.loop-next.arms ++ last ∷ []))) c.in_err-found.was
+    (c.loop-next.invariant.means around before flow clear n)))
+
+pub cases::arms_of-returns-clause-means : goal.cases::arms_of-returns-clause-means
+cases::arms_of-returns-clause-means t c around before flow clear n =
+    let spellings = c.args.scopes.now.spellings.now in
+    let s : Scopes = scopes_view c.args.scopes.now in
+    let base : Base = base_view c.args.base in
+    let first : Arm = first_arm_of spellings c.args.elements.now in
+    let items : List code_more_element.MoreElement = c.as_slice-next-items.result.now in
+    let elements : Elements = arms_so_far spellings first (take c.loop-next.next-index items) in
+    let whole : Elements = elements_in spellings c.args.elements.now in
+    let is : whole ≡ elements =
+    arms_seen spellings c.args.elements.now
+    ∙ ap (arms_so_far spellings first) (sym c.as_slice-next-items.ensures
+    ∙ sym (taken_all items c.loop-next.next-index c.loop-next-test.false)) in
+    subst (λ (arms : List code_arm.Arm). Means (elements_words n whole) (arms_of s around before (Some base) whole)
+    (arms_view spellings arms)) (sym c.in_ok-push-2.ensures.ok)
+    (subst (λ (l : Elements). Means (elements_words n l) (arms_of s around before (Some base) l)
+    (arms_view spellings (c.loop-next.arms ++ c.in_ok-found.field-0 ∷ []))) (sym is)
+    (subst (Settles (elements_words n elements) (arms_of s around before (Some base) elements)
+    (λ last. arms_view spellings (c.loop-next.arms ++ last ∷ []))) c.in_ok-found.was
+    (c.loop-next.invariant.means around before flow clear n)))
+
+pub cases::arms_of-returns-clause-goes : goal.cases::arms_of-returns-clause-goes
+cases::arms_of-returns-clause-goes t c around before flow =
+    let spellings = c.args.scopes.now.spellings.now in
+    let s : Scopes = scopes_view c.args.scopes.now in
+    let first : Arm = first_arm_of spellings c.args.elements.now in
+    let items : List code_more_element.MoreElement = c.as_slice-next-items.result.now in
+    let elements : Elements = arms_so_far spellings first (take c.loop-next.next-index items) in
+    let is : elements_in spellings c.args.elements.now ≡ elements =
+    arms_seen spellings c.args.elements.now
+    ∙ ap (arms_so_far spellings first) (sym c.as_slice-next-items.ensures
+    ∙ sym (taken_all items c.loop-next.next-index c.loop-next-test.false)) in
+    subst (λ (l : Elements). IsFlow s around (before ++ labels_in_elements l) c.loop-next.flow) (sym is)
+    (subst (λ (r : Result code_arm.Arm Stop). OnOk r (IsFlow s around (before ++ labels_in_elements elements)
+    c.loop-next.flow)) c.in_ok-found.was (c.loop-next.invariant.goes around before flow))
+
+abbrev Chooses : Scopes → ℕ → List ℕ → Value → Guard → Type 0
+Chooses s n spellings value guard =
+    Means (expr_words n 0 (expr_in spellings guard.value))
+    (checked (ordinal_only s.outer.types) (value_of s (expr_in spellings guard.value))) value
+
+abbrev ArmsMean : Scopes → ℕ → List ℕ → List ℕ → List ℕ → Base → Arms → code_elements.Elements → Type 0
+ArmsMean s n spellings around before base arms elements =
+    Means (elements_words n (elements_in spellings elements))
+    (arms_of s around before (Some base) (elements_in spellings elements)) arms
+
+pub statements::plain_of-returns-in_err-selector-in-Case-clause-means :
+    goal.statements::plain_of-returns-in_err-selector-in-Case-clause-means
+statements::plain_of-returns-in_err-selector-in-Case-clause-means t c around before flow clear n =
+    let spellings = c.args.scopes.now.spellings.now in
+    let s : Scopes = scopes_view c.args.scopes.now in
+    let g = c.in-Case.guard in
+    let e : Expr = expr_in spellings g.value in
+    let elements : Elements = elements_in spellings c.in-Case.elements in
+    let tail : Others = others_in spellings c.in-Case.others in
+    let end = c.in-Case.end in
+    let whole : Plain = plain_in spellings c.args.plain.now in
+    let is : whole ≡ tree.case g.line e g.behind elements tail end =
+    ap (plain_in spellings) c.in-Case.is
+    ∙ case_seen spellings g c.in-Case.elements c.in-Case.others end in
+    let why = c.in_err-selector-in-Case.field-0.0 in
+    settles_stop (plain_words n whole) (plain_of s around before whole) (statement_view spellings) why
+    c.from_residual-in_err-selector-in-Case.result
+    (err_from_is_err_and _ c.from_residual-in_err-selector-in-Case.ensures.1)
+    (subst (λ (p : Plain). ShowsBy (plain_words n p) (plain_of s around before p).marks why) (sym is)
+    (selector_stops s around before n g.line e g.behind elements tail end why
+    (subst (λ (guard : Guard). ShowsBefore guard.behind (expr_words (n + 1) 0 (expr_in spellings guard.value))
+    (checked (ordinal_only s.outer.types) (value_of s (expr_in spellings guard.value))).marks why)
+    c.get-in-Case.ensures (c.in_err-selector-in-Case.ensures.means clear (n + 1)))))
+
+pub statements::plain_of-returns-in_err-arms-in-Case-clause-means :
+    goal.statements::plain_of-returns-in_err-arms-in-Case-clause-means
+statements::plain_of-returns-in_err-arms-in-Case-clause-means t c around before flow clear n =
+    let spellings = c.args.scopes.now.spellings.now in
+    let s : Scopes = scopes_view c.args.scopes.now in
+    let g = c.in-Case.guard in
+    let e : Expr = expr_in spellings g.value in
+    let elements : Elements = elements_in spellings c.in-Case.elements in
+    let tail : Others = others_in spellings c.in-Case.others in
+    let end = c.in-Case.end in
+    let whole : Plain = plain_in spellings c.args.plain.now in
+    let is : whole ≡ tree.case g.line e g.behind elements tail end =
+    ap (plain_in spellings) c.in-Case.is
+    ∙ case_seen spellings g c.in-Case.elements c.in-Case.others end in
+    let value : Value = value_view c.in_ok-selector-in-Case.selector in
+    let base : Base = base_view c.in_ok-selector-in-Case.base in
+    let got = c.get-in-Case-2.result.now in
+    let line = c.line_behind.result in
+    let why = c.in_err-arms-in-Case.field-0.0 in
+    let at : line ≡ behind_elements end tail =
+    c.line_behind.ensures spellings
+    ∙ ap (λ (part : code_others.Others). behind_elements end (others_in spellings part)) c.get-in-Case-3.ensures in
+    settles_stop (plain_words n whole) (plain_of s around before whole) (statement_view spellings) why
+    c.from_residual-in_err-arms-in-Case.result (err_from_is_err_and _ c.from_residual-in_err-arms-in-Case.ensures.1)
+    (subst (λ (p : Plain). ShowsBy (plain_words n p) (plain_of s around before p).marks why) (sym is)
+    (case_arms_stop s around before n g.line e g.behind elements tail end value base why
+    (subst (Chooses s (n + 1) spellings value) c.get-in-Case.ensures
+    (c.in_ok-selector-in-Case.ensures.means clear (n + 1))) c.in_ok-selector-in-Case.ensures.base
+    (subst (λ (line : ℕ). ShowsBefore line (elements_words (n + 1) elements)
+    (arms_of s around before (Some base) elements).marks why) at
+    (subst (λ (part : code_elements.Elements). ShowsBefore line (elements_words (n + 1) (elements_in spellings part))
+    (arms_of s around before (Some base) (elements_in spellings part)).marks why) c.get-in-Case-2.ensures
+    (found_stops (elements_words (n + 1) (elements_in spellings got))
+    (arms_of s around before (Some base) (elements_in spellings got)) (arms_view spellings) line why
+    c.arms_of-arms.result c.in_err-arms-in-Case.ensures
+    (c.arms_of-arms.ensures.means around before flow clear (n + 1)))))))
+
+pub statements::plain_of-returns-in_err-others-in-Case-clause-means :
+    goal.statements::plain_of-returns-in_err-others-in-Case-clause-means
+statements::plain_of-returns-in_err-others-in-Case-clause-means t c around before flow clear n =
+    let spellings = c.args.scopes.now.spellings.now in
+    let s : Scopes = scopes_view c.args.scopes.now in
+    let g = c.in-Case.guard in
+    let e : Expr = expr_in spellings g.value in
+    let elements : Elements = elements_in spellings c.in-Case.elements in
+    let tail : Others = others_in spellings c.in-Case.others in
+    let end = c.in-Case.end in
+    let whole : Plain = plain_in spellings c.args.plain.now in
+    let is : whole ≡ tree.case g.line e g.behind elements tail end =
+    ap (plain_in spellings) c.in-Case.is
+    ∙ case_seen spellings g c.in-Case.elements c.in-Case.others end in
+    let value : Value = value_view c.in_ok-selector-in-Case.selector in
+    let base : Base = base_view c.in_ok-selector-in-Case.base in
+    let got = c.get-in-Case-2.result.now in
+    let line = c.line_behind.result in
+    let labels : List ℕ = labels_in_elements elements in
+    let arms = c.in_ok-arms-in-Case.arms in
+    let behind : IsFlow s around (before ++ labels) c.arms_of-arms.new.flow =
+    before_other s around before labels c.arms_of-arms.new.flow line arms c.arms_of-arms.result
+    c.in_ok-arms-in-Case.ensures
+    (subst (λ (part : code_elements.Elements). OnOk c.arms_of-arms.result
+    (IsFlow s around (before ++ labels_in_elements (elements_in spellings part)) c.arms_of-arms.new.flow))
+    c.get-in-Case-2.ensures (c.arms_of-arms.ensures.goes around before flow)) in
+    let why = c.in_err-others-in-Case.field-0.0 in
+    settles_stop (plain_words n whole) (plain_of s around before whole) (statement_view spellings) why
+    c.from_residual-in_err-others-in-Case.result
+    (err_from_is_err_and _ c.from_residual-in_err-others-in-Case.ensures.1)
+    (subst (λ (p : Plain). ShowsBy (plain_words n p) (plain_of s around before p).marks why) (sym is)
+    (case_others_stop s around before n g.line e g.behind elements tail end value base (arms_view spellings arms) why
+    (subst (Chooses s (n + 1) spellings value) c.get-in-Case.ensures
+    (c.in_ok-selector-in-Case.ensures.means clear (n + 1))) c.in_ok-selector-in-Case.ensures.base
+    (subst (ArmsMean s (n + 1) spellings around before base (arms_view spellings arms)) c.get-in-Case-2.ensures
+    (found_means (elements_words (n + 1) (elements_in spellings got))
+    (arms_of s around before (Some base) (elements_in spellings got)) (arms_view spellings) line arms
+    c.arms_of-arms.result c.in_ok-arms-in-Case.ensures
+    (c.arms_of-arms.ensures.means around before flow clear (n + 1))))
+    (subst (λ (part : code_others.Others). ShowsBefore end (others_words (n + 1) (others_in spellings part))
+    (others_of s around (before ++ labels) (others_in spellings part)).marks why) c.get-in-Case-4.ensures
+    (c.in_err-others-in-Case.ensures.means around (before ++ labels) behind clear (n + 1)))))
+
+pub statements::plain_of-returns-in_ok-case_of-in-Case-clause-means :
+    goal.statements::plain_of-returns-in_ok-case_of-in-Case-clause-means
+statements::plain_of-returns-in_ok-case_of-in-Case-clause-means t c around before flow clear n =
+    let spellings = c.args.scopes.now.spellings.now in
+    let s : Scopes = scopes_view c.args.scopes.now in
+    let g = c.in-Case.guard in
+    let e : Expr = expr_in spellings g.value in
+    let elements : Elements = elements_in spellings c.in-Case.elements in
+    let tail : Others = others_in spellings c.in-Case.others in
+    let end = c.in-Case.end in
+    let whole : Plain = plain_in spellings c.args.plain.now in
+    let is : whole ≡ tree.case g.line e g.behind elements tail end =
+    ap (plain_in spellings) c.in-Case.is
+    ∙ case_seen spellings g c.in-Case.elements c.in-Case.others end in
+    let value : Value = value_view c.in_ok-selector-in-Case.selector in
+    let base : Base = base_view c.in_ok-selector-in-Case.base in
+    let got = c.get-in-Case-2.result.now in
+    let line = c.line_behind.result in
+    let labels : List ℕ = labels_in_elements elements in
+    let arms = c.in_ok-arms-in-Case.arms in
+    let behind : IsFlow s around (before ++ labels) c.arms_of-arms.new.flow =
+    before_other s around before labels c.arms_of-arms.new.flow line arms c.arms_of-arms.result
+    c.in_ok-arms-in-Case.ensures
+    (subst (λ (part : code_elements.Elements). OnOk c.arms_of-arms.result
+    (IsFlow s around (before ++ labels_in_elements (elements_in spellings part)) c.arms_of-arms.new.flow))
+    c.get-in-Case-2.ensures (c.arms_of-arms.ensures.goes around before flow)) in
+    let make : Value → Arms → typed.Statement = others_view spellings c.in_ok-others-in-Case.others in
+    subst (λ (made : typed.Statement). Means (plain_words n whole) (plain_of s around before whole) made)
+    (sym (c.in_ok-case_of-in-Case.ensures spellings))
+    (subst (λ (p : Plain). Means (plain_words n p) (plain_of s around before p)
+    (make value (arms_view spellings arms))) (sym is)
+    (case_means s around before n g.line e g.behind elements tail end value base (arms_view spellings arms) make
+    (subst (Chooses s (n + 1) spellings value) c.get-in-Case.ensures
+    (c.in_ok-selector-in-Case.ensures.means clear (n + 1))) c.in_ok-selector-in-Case.ensures.base
+    (subst (ArmsMean s (n + 1) spellings around before base (arms_view spellings arms)) c.get-in-Case-2.ensures
+    (found_means (elements_words (n + 1) (elements_in spellings got))
+    (arms_of s around before (Some base) (elements_in spellings got)) (arms_view spellings) line arms
+    c.arms_of-arms.result c.in_ok-arms-in-Case.ensures
+    (c.arms_of-arms.ensures.means around before flow clear (n + 1))))
+    (subst (λ (part : code_others.Others). Means (others_words (n + 1) (others_in spellings part))
+    (others_of s around (before ++ labels) (others_in spellings part)) make) c.get-in-Case-4.ensures
+    (c.in_ok-others-in-Case.ensures.means around (before ++ labels) behind clear (n + 1)))))
+
+pub statements::plain_of-returns-in_ok-case_of-in-Case-clause-goes :
+    goal.statements::plain_of-returns-in_ok-case_of-in-Case-clause-goes
+statements::plain_of-returns-in_ok-case_of-in-Case-clause-goes t c around before flow =
+    let spellings = c.args.scopes.now.spellings.now in
+    let s : Scopes = scopes_view c.args.scopes.now in
+    let g = c.in-Case.guard in
+    let e : Expr = expr_in spellings g.value in
+    let elements : Elements = elements_in spellings c.in-Case.elements in
+    let tail : Others = others_in spellings c.in-Case.others in
+    let end = c.in-Case.end in
+    let whole : Plain = plain_in spellings c.args.plain.now in
+    let is : whole ≡ tree.case g.line e g.behind elements tail end =
+    ap (plain_in spellings) c.in-Case.is
+    ∙ case_seen spellings g c.in-Case.elements c.in-Case.others end in
+    let line = c.line_behind.result in
+    let labels : List ℕ = labels_in_elements elements in
+    let arms = c.in_ok-arms-in-Case.arms in
+    let behind : IsFlow s around (before ++ labels) c.arms_of-arms.new.flow =
+    before_other s around before labels c.arms_of-arms.new.flow line arms c.arms_of-arms.result
+    c.in_ok-arms-in-Case.ensures
+    (subst (λ (part : code_elements.Elements). OnOk c.arms_of-arms.result
+    (IsFlow s around (before ++ labels_in_elements (elements_in spellings part)) c.arms_of-arms.new.flow))
+    c.get-in-Case-2.ensures (c.arms_of-arms.ensures.goes around before flow)) in
+    let new = c.others_of.new.flow in
+    subst (λ (p : Plain). IsFlow s around (before ++ labels_in p) new) (sym is)
+    (regroup s around before new labels (labels_in_others tail)
+    (subst (λ (part : code_others.Others). IsFlow s around
+    ((before ++ labels) ++ labels_in_others (others_in spellings part)) new) c.get-in-Case-4.ensures
+    (c.in_ok-others-in-Case.ensures.goes around (before ++ labels) behind)))
