@@ -1,5 +1,5 @@
 -- The body of a loop that is no compound.
-use Rattle.std.proofs.Common.{◌≡◌, refl, sym, ap, subst, ◌∙◌, ℕ, List, map, None}
+use Rattle.std.proofs.Common.{◌≡◌, refl, sym, ap, subst, ◌∙◌, ℕ, List, None}
 use Rattle.pas_typed.specs.declared.typed.Statement as code_statement
 use Rattle.pas_typed.specs.declared.typed.Statement.TheVariants as statement
 use Rattle.pas_typed.specs.declared.typed.Statement.TheVariants.{rolls-Empty, rolls-Assigns, rolls-SetsResult}

@@ -1,7 +1,8 @@
 -- What functions on the constants of a case answer.
 use Rattle.std.proofs.Common.{◌≡◌, refl, sym, ap, subst, ◌∙◌, ℕ, ◌+◌, ◌<◌, arith, Bool, true, false, List, [], ◌∷◌}
-use Rattle.std.proofs.Common.{◌++◌, map, length, take, drop, drop-cons, get_or, suc, Option, Some, None, Result, Ok, Err}
-use Rattle.std.specs.Prelude.{ℤ, not, if◌then◌else◌, ◌&&◌, ◌||◌, int_le, unwrap_or, flat_map, ⊤}
+use Rattle.std.proofs.Common.{◌++◌, map, length, take, drop, drop-cons, get_or, suc, Option, Some, None, Result, Ok}
+use Rattle.std.proofs.Common.{Err}
+use Rattle.std.specs.Prelude.{ℤ, not, if◌then◌else◌, ◌||◌, unwrap_or, flat_map}
 use Rattle.std.specs.Ordering.{int_eq}
 use Rattle.std.specs.List.{list_any}
 use Rattle.std.proofs.lemmas.Grind.{common_steps}
@@ -12,7 +13,7 @@ use Rattle.wb_base.specs.declared.faults.TheConstants.{WRONG_TYPE, DUPLICATE_NAM
 use Rattle.pas_tokens.specs.Cutting.{Wrong, wrong}
 use Rattle.pas_tokens.specs.declared.kinds.Kind.TheVariants as kind
 use Rattle.pas_syntax.specs.Tree.{Behind, Separated, Constant}
-use Rattle.pas_syntax.specs.Words.{Word, at, constant_words, separated}
+use Rattle.pas_syntax.specs.Words.{Word, at, constant_words}
 use Rattle.pas_typed.specs.Types.{Base, same_base}
 use Rattle.pas_types.specs.declared.stop.Stop.{Stop}
 use Rattle.pas_types.specs.declared.stop.Stop.TheVariants as stop
@@ -119,7 +120,8 @@ module _ (scopes : Scopes) (base : Base) (before : List ℤ) (n : ℕ) where
   valued None found is = cc
   valued (Some choice) found is = (choice, refl, cc)
 
-  choice_many : (taken : List ℤ) (constant : Constant) → AsMany (constant_words n constant) (choice_at taken constant).marks
+  choice_many : (taken : List ℤ) (constant : Constant) → AsMany (constant_words n constant)
+      (choice_at taken constant).marks
   choice_many taken constant =
       checked_many (fits_case (Some base) taken) (constant_of scopes constant) (constant_many scopes n constant)
 
@@ -196,7 +198,8 @@ module _ (scopes : Scopes) (base : Base) (before : List ℤ) (n : ℕ) where
   more_both part [] others = refl
   more_both part (first ∷ more) others = more_both (with_next part first) more others
 
-  words_both : (more others : List (Behind Constant)) → more_words (more ++ others) ≡ more_words more ++ more_words others
+  words_both : (more others : List (Behind Constant)) → more_words (more ++ others)
+      ≡ more_words more ++ more_words others
   words_both [] others = refl
   words_both (first ∷ more) others =
       ap (λ (rest : List Word). next_words first ++ rest) (words_both more others)
@@ -358,7 +361,8 @@ module _ (scopes : Scopes) (base : Base) (before : List ℤ) where
         split.3 in
         made_of_both (λ (values : List ℤ) (found : ConstantValue). values ++ found.value ∷ []) other.value
         (checked (fits_case None (values_known other)) next).value split.0 split.1 (h.also split.0 split.2)
-        (ap (λ (found : Option ConstantValue). (checked_by (fits_case None (values_known other)) next.marks found).value)
+        (ap (λ (found : Option ConstantValue). (checked_by (fits_case None (values_known other))
+        next.marks found).value)
         known_next)
         ∙ ap Some split.4;
   }

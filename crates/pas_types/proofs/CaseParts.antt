@@ -29,7 +29,7 @@ use Rattle.pas_types.specs.declared.flow.Flow.{Flow}
 use Rattle.pas_types.specs.declared.scopes.Scopes.{Scopes as CodeScopes}
 use Rattle.pas_types.specs.declared.stop.Stop.{Stop}
 use Rattle.pas_types.specs.declared.stop.Stop.TheVariants as stop
-use Rattle.pas_types.specs.Marks.{Marks, no_token, quiet, first_of, followed, joined, Judged, judged, known, both}
+use Rattle.pas_types.specs.Marks.{Marks, no_token, quiet, first_of, followed, joined, Judged, known}
 use Rattle.pas_types.specs.Marks.{known_of, checked}
 use Rattle.pas_types.specs.Scopes.{Scopes}
 use Rattle.pas_types.specs.TypeForms.{maybe_quiet}
@@ -38,16 +38,15 @@ use Rattle.pas_types.specs.Expressions.{ordinal_only, value_of}
 use Rattle.pas_types.specs.Statements.{constants_of, constants_in, statement_of, arms_of, others_of, with_arm, plain_of}
 use Rattle.pas_types.specs.Statements.{values_known, base_of_value}
 use Rattle.pas_types.specs.ScopeViews.{scopes_view, IsClear}
-use Rattle.pas_types.specs.inner.Stopping.{stop_before, found_before}
+use Rattle.pas_types.specs.inner.Stopping.{stop_before}
 use Rattle.pas_types.specs.inner.Answers.{IsQuiet, Means, FailsBy, ShowsBy, Settles}
-use Rattle.pas_types.specs.inner.FlowViews.{IsFlow, Goes, ShowsBefore, Precedes}
-use Rattle.pas_types.specs.inner.CaseViews.{arm_part, arm_words, IsArm, others_view, behind_elements}
-use Rattle.pas_types.proofs.AsMany.{AsMany, all, and_then, next_word, before_word, checked_many, first_count}
+use Rattle.pas_types.specs.inner.FlowViews.{IsFlow, Goes, ShowsBefore}
+use Rattle.pas_types.specs.inner.CaseViews.{arm_part, arm_words, IsArm, behind_elements}
+use Rattle.pas_types.proofs.AsMany.{AsMany, all, and_then, next_word, before_word, first_count}
 use Rattle.pas_types.proofs.AsMany.{around as between_words}
 use Rattle.pas_types.proofs.EndLemmas.{first_nothing}
-use Rattle.pas_types.proofs.ExpressionsAsMany.{value_many}
 use Rattle.pas_types.proofs.StatementsAsMany.{statement_many, constants_many, elements_many, others_many}
-use Rattle.pas_types.proofs.SettleLemmas.{quiet_alone, shows_alone, fails_shows, quiet_behind, shows_by_behind}
+use Rattle.pas_types.proofs.SettleLemmas.{quiet_alone, shows_alone, quiet_behind, shows_by_behind}
 use Rattle.pas_types.proofs.SettleLemmas.{nothing_shown}
 use Rattle.pas_types.proofs.ChainLemmas.{made_of_both, made_of_three, before_shows, behind_shows, behind_quiet}
 use Rattle.pas_types.proofs.ChainLemmas.{fault_front, word_shows, word_quiet, guard_shows, guarded_shows, guarded_quiet}
@@ -111,7 +110,8 @@ module _ (scopes : Scopes) (around before : List ℕ) (base : Base) (taken : Lis
       → Means chosen_words chosen found
       → Means (arm_words n arm) whole_arm (λ others. typed.arm values found others)
   arm_means values found h k = record {
-    known = made_of_both (λ values statement others. typed.arm values statement others) choices.value chosen.value values
+    known = made_of_both (λ values statement others. typed.arm values statement others)
+        choices.value chosen.value values
         found h.known k.known;
     quiet = behind_quiet choices_words chosen_words (at n kind.Colon arm.colon) choices.marks
         (joined (chosen.marks ∷ [])) h.quiet false (quiet_alone chosen_words chosen.marks false k.quiet);
@@ -290,7 +290,8 @@ module _ (spellings : List ℕ) where
     arms_stay why there elements (first ∷ more) h =
         arms_stay why there (more_element_in spellings first elements) more
         (subst (λ (step : Elements → Elements). shown_in_arms why (step elements)) (sym (more_arm_seen first))
-        (fault_shows scopes spellings around before base n elements (out-MoreElement first).line (arm_at first) why there
+        (fault_shows scopes spellings around before base n elements (out-MoreElement first).line (arm_at first)
+        why there
         h))
 
     never_missing : (line : ℕ) (why other : Stop) → why ≡ stop_before line other → why ≡ stop.Missing → ⊥
@@ -298,7 +299,8 @@ module _ (spellings : List ℕ) where
     never_missing line why (stop.Fault fault) is are = cc
     never_missing line why stop.Missing is are = cc
 
-    pub arms_stop : (elements : Elements) (next : code_more.MoreElement) (more : List code_more.MoreElement) (why : Stop)
+    pub arms_stop : (elements : Elements) (next : code_more.MoreElement) (more : List code_more.MoreElement)
+        (why : Stop)
         → ShowsBefore (out-MoreElement next).line (elements_words n elements)
         (arms_of scopes around before (Some base) elements).marks why
         → shown_in_arms why (in_turn elements (map (more_element_in spellings) (next ∷ more)))
@@ -444,7 +446,8 @@ module _ (scopes : Scopes) (around before : List ℕ) (n : ℕ) (line others_lin
     others_mean (Some last) found h = record {
       known = ap (known (λ statement selector arms. typed.case_others selector arms statement)) h.known;
       quiet = quiet_front (found_words ++ at n kind.Semicolon last ∷ []) (joined (found_part.marks ∷ quiet ∷ []))
-          (behind_quiet found_words [] (at n kind.Semicolon last) found_part.marks no_token h.quiet false nothing_shown);
+          (behind_quiet found_words [] (at n kind.Semicolon last)
+          found_part.marks no_token h.quiet false nothing_shown);
     }
 
 -- a case
@@ -549,7 +552,8 @@ arms_before n words marks scopes around before (tree.others line others_line col
     (led_many (at n kind.Semicolon line) inside_words (at n kind.End end ∷ []) inside last many) why h)
 
 -- what is made of three known parts, of which the first one tells it
-made_by : {A B C : Type 0} (one : Option (A → B → C)) (other : Option A) (third : Option B) (make : A → B → C) (value : A)
+made_by : {A B C : Type 0} (one : Option (A → B → C)) (other : Option A) (third : Option B) (make : A → B → C)
+    (value : A)
     (item : B) → one ≡ Some make → other ≡ Some value → third ≡ Some item
     → known_of (known_of one other) third ≡ Some (make value item)
 made_by one other third make value item is are was =
@@ -627,7 +631,8 @@ module _ (scopes : Scopes) (around before : List ℕ) (n : ℕ) (line : ℕ) (e 
   case_means value base arms make h is k l =
       let found : Means its_words (arms_by its_base) arms = its_arms value base arms h is k in
       record {
-        known = made_by tail_part.value chooser.value (arms_by its_base).value make value arms l.known h.known found.known;
+        known = made_by tail_part.value chooser.value
+            (arms_by its_base).value make value arms l.known h.known found.known;
         quiet = guarded_quiet (at (n + 1) kind.Case line) (at (n + 1) kind.Of of_line) chooser_words
             (its_words ++ (tail_words ++ last_word ∷ [])) chooser.marks
             (joined ((arms_by its_base).marks ∷ tail_part.marks ∷ quiet ∷ [])) h.quiet false

@@ -6,14 +6,13 @@ use Rattle.pas_tokens.specs.Cutting.{Wrong}
 use Rattle.pas_syntax.specs.Words.{Word}
 use Rattle.pas_types.specs.declared.stop.Stop.{Stop}
 use Rattle.pas_types.specs.declared.stop.Stop.TheVariants as stop
-use Rattle.pas_types.specs.Marks.{Marks, no_token, quiet, shows, followed, joined, Judged, judged, known, both, known_of}
-use Rattle.pas_types.specs.inner.Stopping.{stop_before, found_before}
-use Rattle.pas_types.specs.inner.Answers.{Ending, noted_end, settled_at, settled_by, IsQuiet, Means, ShowsBy}
+use Rattle.pas_types.specs.Marks.{Marks, quiet, followed, Judged, known, both, known_of}
+use Rattle.pas_types.specs.inner.Stopping.{found_before}
+use Rattle.pas_types.specs.inner.Answers.{Ending, noted_end, settled_at, settled_by, IsQuiet, ShowsBy}
 use Rattle.pas_types.specs.inner.Answers.{Settles}
 use Rattle.pas_types.specs.inner.FlowViews.{ShowsBefore, Precedes}
 use Rattle.pas_types.proofs.AsMany.{AsMany}
 use Rattle.pas_types.proofs.SettleLemmas.{quiet_behind, shows_by_behind, shows_before, shows_front, quiet_word}
-use Rattle.pas_types.proofs.SettleLemmas.{quiet_alone, shows_alone}
 
 -- what is made of known parts
 pub made_of : {A B : Type 0} (make : A → B) (one : Option A) (value : A) → one ≡ Some value

@@ -1,7 +1,7 @@
 -- What is known at a place in a block, by what stands there.
 use Rattle.std.proofs.Common.{◌≡◌, refl, sym, ap, subst, ◌∙◌, ℕ, List, [], ◌∷◌, ◌++◌, Option, Some, None}
-use Rattle.std.proofs.Common.{Bool, true, false, arith}
-use Rattle.std.specs.Prelude.{◌==◌, ⊤, option_and_then, if◌then◌else◌, is_some, option_map}
+use Rattle.std.proofs.Common.{true, arith}
+use Rattle.std.specs.Prelude.{◌==◌, option_and_then, is_some, option_map}
 use Rattle.std.specs.Option.{option_copied}
 use Rattle.std.proofs.lemmas.Bool.Decides.{nat_tests}
 use Rattle.std.proofs.lemmas.List.{append_assoc, append-nil}
@@ -15,10 +15,10 @@ use Rattle.pas_types.specs.Marks.{Judged, refuses}
 use Rattle.pas_types.specs.Scopes.{Outer, Inner, Scopes}
 use Rattle.pas_types.specs.Labels.{block_labels, labels_of_block, goto_of}
 use Rattle.pas_types.specs.Expressions.{heading_of}
-use Rattle.pas_types.specs.Statements.{Target, target_result, target_routine}
+use Rattle.pas_types.specs.Statements.{target_result, target_routine}
 use Rattle.pas_types.specs.inner.Ends.{AreQuiet}
-use Rattle.pas_types.specs.inner.Answers.{IsQuiet, Means}
-use Rattle.pas_types.specs.inner.LabelViews.{Known, numbers_of, known_labels, goto_by, entered, left, stood}
+use Rattle.pas_types.specs.inner.Answers.{Means}
+use Rattle.pas_types.specs.inner.LabelViews.{Known, known_labels, goto_by, entered, left, stood}
 use Rattle.pas_types.specs.inner.FlowViews.{IsBeside, IsFlow}
 use Rattle.pas_types.proofs.LabelRules.{main_goto, routine_goto, entered_known, left_known, stood_known}
 use Rattle.pas_types.proofs.LabelLemmas.{by_true}

@@ -1,5 +1,5 @@
 -- The code's statements, a variant at a time, as those of the definition.
-use Rattle.std.proofs.Common.{◌≡◌, ℕ, List, map}
+use Rattle.std.proofs.Common.{◌≡◌, ℕ, List}
 use Rattle.pas_syntax.specs.declared.tree.Behind.{Behind as CodeBehind}
 use Rattle.pas_syntax.specs.declared.tree.Guard.{Guard}
 use Rattle.pas_syntax.specs.declared.tree.ForHead.{ForHead}

@@ -1,5 +1,5 @@
 -- Whether statements of a list give a function its result, one after another.
-use Rattle.std.proofs.Common.{◌≡◌, refl, sym, ap, ◌∙◌, ℕ, suc, ◌+◌, ◌<◌, List, [], ◌∷◌, ◌++◌, map, Bool, true, false}
+use Rattle.std.proofs.Common.{◌≡◌, refl, sym, ap, ◌∙◌, ℕ, suc, ◌+◌, ◌<◌, List, [], ◌∷◌, ◌++◌, Bool, true, false}
 use Rattle.std.proofs.Common.{◌||◌, length, take, drop, drop-cons, get_or}
 use Rattle.std.proofs.lemmas.List.{take-append-drop}
 use Rattle.pas_typed.specs.declared.typed.Labelled as code_labelled

@@ -1,7 +1,7 @@
 -- Statements one after another, as far as they were looked at.
-use Rattle.std.proofs.Common.{◌≡◌, refl, sym, ap, subst, ◌∙◌, ℕ, ◌+◌, ◌<◌, suc, zero, arith, List, [], ◌∷◌, ◌++◌, true, false}
+use Rattle.std.proofs.Common.{◌≡◌, refl, sym, ap, subst, ◌∙◌, ℕ, ◌+◌, ◌<◌, suc, List, [], ◌∷◌, ◌++◌, false}
 use Rattle.std.proofs.Common.{map, length, take, drop, drop-cons, get_or, Option, Some, None, Result, Ok, Err}
-use Rattle.std.specs.Prelude.{OnOk, fold}
+use Rattle.std.specs.Prelude.{OnOk}
 use Rattle.std.proofs.lemmas.List.{take-append-drop}
 use Rattle.pas_tokens.specs.declared.kinds.Kind.TheVariants as kind
 use Rattle.pas_syntax.specs.declared.tree.MoreStatement as code_more
@@ -9,7 +9,7 @@ use Rattle.pas_syntax.specs.declared.tree.Others.TheViews.{out-MoreStatement}
 use Rattle.pas_syntax.specs.Tree as tree
 use Rattle.pas_syntax.specs.Tree.{Statement, Statements}
 use Rattle.pas_syntax.specs.Views.{in_turn}
-use Rattle.pas_syntax.specs.Words.{Word, at, statement_words, statements_words}
+use Rattle.pas_syntax.specs.Words.{at, statement_words, statements_words}
 use Rattle.pas_syntax.specs.ProgramViews.{statement_in, more_statement_in}
 use Rattle.pas_typed.specs.declared.typed.Labelled as code_labelled
 use Rattle.pas_typed.specs.declared.typed.Statement.TheViews.{out-Labelled}
@@ -22,19 +22,18 @@ use Rattle.pas_types.specs.declared.flow.Flow.{Flow}
 use Rattle.pas_types.specs.declared.scopes.Scopes.{Scopes as CodeScopes}
 use Rattle.pas_types.specs.declared.stop.Stop.{Stop}
 use Rattle.pas_types.specs.declared.stop.Stop.TheVariants as stop
-use Rattle.pas_types.specs.Marks.{Marks, no_token, quiet, followed, joined, Judged, judged, known, both}
+use Rattle.pas_types.specs.Marks.{quiet, joined, Judged, known}
 use Rattle.pas_types.specs.Scopes.{Scopes}
 use Rattle.pas_types.specs.Labels.{in_list, labels_at, labels_in_list}
 use Rattle.pas_types.specs.Statements.{statement_of, statements_of, label_of, with_statement}
 use Rattle.pas_types.specs.ScopeViews.{scopes_view, IsClear}
-use Rattle.pas_types.specs.inner.Stopping.{stop_before, found_before}
-use Rattle.pas_types.specs.inner.Answers.{IsQuiet, Means, ShowsBy, Settles}
-use Rattle.pas_types.specs.inner.FlowViews.{IsFlow, ShowsBefore, listed_statement, IsListed, IsList, Goes}
+use Rattle.pas_types.specs.inner.Stopping.{stop_before}
+use Rattle.pas_types.specs.inner.Answers.{Means, ShowsBy, Settles}
+use Rattle.pas_types.specs.inner.FlowViews.{IsFlow, ShowsBefore, listed_statement, IsListed, Goes}
 use Rattle.pas_types.proofs.AsMany.{AsMany, all, next_word}
 use Rattle.pas_types.proofs.StatementsAsMany.{statement_many}
 use Rattle.pas_types.proofs.SettleLemmas.{quiet_alone, shows_alone}
 use Rattle.pas_types.proofs.ChainLemmas.{made_of, made_of_both, before_shows, behind_shows, behind_quiet, fault_front}
-use Rattle.pas_types.proofs.ChainLemmas.{word_shows}
 use Rattle.pas_types.proofs.LabelSeen.{more_seen, taken_more, turned_push, map_push}
 use Rattle.pas_types.proofs.FlowLemmas.{regroup}
 

@@ -1,6 +1,6 @@
 -- What is answered of a statement, by what was answered of its parts.
-use Rattle.std.proofs.Common.{◌≡◌, refl, sym, ap, subst, ◌∙◌, ℕ, ◌+◌, Bool, true, false, List, [], ◌∷◌, ◌++◌}
-use Rattle.std.proofs.Common.{Option, Some, None, Result, Ok, Err}
+use Rattle.std.proofs.Common.{◌≡◌, refl, sym, subst, ℕ, ◌+◌, false, List, [], ◌∷◌, ◌++◌}
+use Rattle.std.proofs.Common.{Option, Some, Result, Ok, Err}
 use Rattle.pas_tokens.specs.declared.kinds.Kind.TheVariants as kind
 use Rattle.pas_tokens.specs.Cutting.{Wrong}
 use Rattle.pas_syntax.specs.declared.operators.Way.{Way}
@@ -11,7 +11,7 @@ use Rattle.pas_syntax.specs.Words.{number_at, statements_words}
 use Rattle.pas_typed.specs.Typed as typed
 use Rattle.pas_typed.specs.Typed.{Slot, Value}
 use Rattle.pas_types.specs.declared.stop.Stop.{Stop}
-use Rattle.pas_types.specs.Marks.{Marks, no_token, quiet, followed, joined, Judged, judged, known, both, known_of}
+use Rattle.pas_types.specs.Marks.{Marks, no_token, quiet, followed, joined, Judged, judged}
 use Rattle.pas_types.specs.Marks.{shows, checked, lowest}
 use Rattle.pas_types.specs.Scopes.{Scopes, entity_of}
 use Rattle.pas_types.specs.Labels.{Spot, elsewhere, label_faults, labels_at, labels_of_list}
@@ -20,11 +20,11 @@ use Rattle.pas_types.specs.Statements.{test_of, plain_of, statement_of, statemen
 use Rattle.pas_types.specs.inner.Ends.{lowest_of}
 use Rattle.pas_types.specs.inner.Stopping.{shown_in}
 use Rattle.pas_types.specs.inner.Answers.{stands_at, IsQuiet, Means, ShowsBy, Settles}
-use Rattle.pas_types.specs.inner.FlowViews.{ShowsBefore, Precedes}
+use Rattle.pas_types.specs.inner.FlowViews.{ShowsBefore}
 use Rattle.pas_types.proofs.AsMany.{AsMany, all, and_then, next_word, checked_many, none}
 use Rattle.pas_types.proofs.AsMany.{around as between_words, one as one_word}
 use Rattle.pas_types.proofs.ExpressionsAsMany.{value_many}
-use Rattle.pas_types.proofs.StatementsAsMany.{plain_many, statement_many, statements_many, test_many}
+use Rattle.pas_types.proofs.StatementsAsMany.{plain_many, statement_many, test_many}
 use Rattle.pas_types.proofs.SettleLemmas.{quiet_alone, shows_alone, nothing_shown, quiet_behind, shows_by_behind}
 use Rattle.pas_types.proofs.ChainLemmas.{made_of, made_of_both, made_of_three, made_of_four, word_shows, word_quiet}
 use Rattle.pas_types.proofs.ChainLemmas.{before_shows, behind_shows, behind_quiet, guard_shows, guarded_shows}
@@ -43,14 +43,16 @@ module _ (scopes : Scopes) (around before : List ℕ) (n : ℕ) where
         → ShowsBy (plain_words n (tree.compound begin list end))
         (plain_of scopes around before (tree.compound begin list end)).marks why
     compound_stops why h =
-        guard_shows (at (n + 1) kind.Begin begin) (at (n + 1) kind.End end) inside_words [] inside.marks no_token none why h
+        guard_shows (at (n + 1) kind.Begin begin) (at (n + 1) kind.End end)
+        inside_words [] inside.marks no_token none why h
 
     pub compound_means : (found : typed.Statements) → Means inside_words inside found
         → Means (plain_words n (tree.compound begin list end))
         (plain_of scopes around before (tree.compound begin list end)) (typed.compound found)
     compound_means found h = record {
       known = made_of (λ list. typed.compound list) inside.value found h.known;
-      quiet = guarded_quiet (at (n + 1) kind.Begin begin) (at (n + 1) kind.End end) inside_words [] inside.marks no_token
+      quiet = guarded_quiet (at (n + 1) kind.Begin begin) (at (n + 1) kind.End end)
+          inside_words [] inside.marks no_token
           h.quiet false nothing_shown;
     }
 
@@ -155,14 +157,16 @@ module _ (scopes : Scopes) (around before : List ℕ) (n : ℕ) where
         (one_words ++ at (n + 1) kind.Else else_line ∷ other_words) (test line e behind s).marks
         (joined (one.marks ∷ quiet ∷ other.marks ∷ [])) both_many why h
 
-    pub choice_one_stops : (value : Value) (why : Stop) → Means (test_words line e behind s) (test line e behind s) value
+    pub choice_one_stops : (value : Value) (why : Stop) → Means (test_words line e behind s) (test line e behind s)
+        value
         → ShowsBefore else_line one_words one.marks why
         → ShowsBy (plain_words n choice) (plain_of scopes around before choice).marks why
     choice_one_stops value why h k =
         guarded_shows (at (n + 1) kind.If line) (at (n + 1) kind.Then behind) (test_words line e behind s)
         (one_words ++ at (n + 1) kind.Else else_line ∷ other_words) (test line e behind s).marks
         (joined (one.marks ∷ quiet ∷ other.marks ∷ [])) h.quiet why
-        (before_shows one_words other_words (at (n + 1) kind.Else else_line) one.marks (joined (other.marks ∷ [])) other_many
+        (before_shows one_words other_words (at (n + 1) kind.Else else_line) one.marks (joined (other.marks ∷ []))
+        other_many
         why k)
 
     pub choice_other_stops : (value : Value) (found : typed.Statement) (why : Stop)
@@ -173,7 +177,8 @@ module _ (scopes : Scopes) (around before : List ℕ) (n : ℕ) where
         guarded_shows (at (n + 1) kind.If line) (at (n + 1) kind.Then behind) (test_words line e behind s)
         (one_words ++ at (n + 1) kind.Else else_line ∷ other_words) (test line e behind s).marks
         (joined (one.marks ∷ quiet ∷ other.marks ∷ [])) h.quiet why
-        (behind_shows one_words other_words (at (n + 1) kind.Else else_line) one.marks (joined (other.marks ∷ [])) k.quiet
+        (behind_shows one_words other_words (at (n + 1) kind.Else else_line) one.marks (joined (other.marks ∷ []))
+        k.quiet
         why (shows_alone other_words other.marks why l))
 
     pub choice_means : (value : Value) (found last : typed.Statement)
@@ -186,7 +191,8 @@ module _ (scopes : Scopes) (around before : List ℕ) (n : ℕ) where
       quiet = guarded_quiet (at (n + 1) kind.If line) (at (n + 1) kind.Then behind) (test_words line e behind s)
           (one_words ++ at (n + 1) kind.Else else_line ∷ other_words) (test line e behind s).marks
           (joined (one.marks ∷ quiet ∷ other.marks ∷ [])) h.quiet false
-          (behind_quiet one_words other_words (at (n + 1) kind.Else else_line) one.marks (joined (other.marks ∷ [])) k.quiet
+          (behind_quiet one_words other_words (at (n + 1) kind.Else else_line) one.marks (joined (other.marks ∷ []))
+          k.quiet
           false (quiet_alone other_words other.marks false l.quiet));
     }
 
@@ -342,7 +348,8 @@ module _ (scopes : Scopes) (around before : List ℕ) (n : ℕ) where
         for_behind h.quiet why
         (behind_shows from_words (to_words ++ do_word ∷ turn_words) way_word from.marks
         (joined (to.marks ∷ quiet ∷ turn.marks ∷ [])) (from_means counted value h k).quiet why
-        (behind_shows to_words turn_words do_word to.marks (joined (turn.marks ∷ [])) (to_means counted end h l).quiet why
+        (behind_shows to_words turn_words do_word to.marks (joined (turn.marks ∷ []))
+        (to_means counted end h l).quiet why
         (shows_alone turn_words turn.marks why m)))
 
     pub for_means : (counted : Slot) (value end : Value) (found : typed.Statement) → Means (name_word ∷ []) slot counted
@@ -367,9 +374,11 @@ module _ (scopes : Scopes) (around before : List ℕ) (n : ℕ) where
         }
 
   -- a goto
-  pub goto_settles : {X : Type 0} (line : ℕ) (word : Word) (target : Judged typed.Statement) (view : X → typed.Statement)
+  pub goto_settles : {X : Type 0} (line : ℕ) (word : Word) (target : Judged typed.Statement)
+      (view : X → typed.Statement)
       (found : Result X Stop) → Settles (word ∷ []) target view found
-      → Settles (at n kind.Goto line ∷ (word ∷ [])) (judged (joined (quiet ∷ target.marks ∷ [])) target.value) view found
+      → Settles (at n kind.Goto line ∷ (word ∷ [])) (judged (joined (quiet ∷ target.marks ∷ [])) target.value)
+      view found
   goto_settles line word target view (Ok x) h = record {
     known = h.known;
     quiet = word_quiet (at n kind.Goto line) (word ∷ []) (joined (target.marks ∷ [])) false
@@ -411,7 +420,8 @@ module _ (scopes : Scopes) (spot : Spot) (around before : List ℕ) (n : ℕ) (n
         → ShowsBy (statement_words n (tree.labelled numeral colon s))
         (statement_of scopes spot around before (tree.labelled numeral colon s)).marks why
     label_stops why is =
-        shown_label (number_at n numeral) (at n kind.Colon colon) (plain_words n s) (joined (inner.marks ∷ [])) faults why
+        shown_label (number_at n numeral) (at n kind.Colon colon) (plain_words n s) (joined (inner.marks ∷ []))
+        faults why
         (all inner.marks (plain_many scopes n around (before ++ numeral.value ∷ []) s)) is
 
     pub label_settles : {X : Type 0} (view : X → typed.Statement) (found : Result X Stop)
@@ -422,12 +432,14 @@ module _ (scopes : Scopes) (spot : Spot) (around before : List ℕ) (n : ℕ) (n
       known = h.known;
       quiet = quiet_behind (number_at n numeral ∷ (at n kind.Colon colon ∷ [])) (plain_words n s)
           (joined (shows faults ∷ quiet ∷ [])) (joined (inner.marks ∷ [])) false
-          (passed_label (number_at n numeral) (at n kind.Colon colon) (plain_words n s) (joined (inner.marks ∷ [])) faults
+          (passed_label (number_at n numeral) (at n kind.Colon colon) (plain_words n s) (joined (inner.marks ∷ []))
+          faults
           is)
           (quiet_alone (plain_words n s) inner.marks false h.quiet);
     }
     label_settles view (Err why) is h =
         shows_by_behind (number_at n numeral ∷ (at n kind.Colon colon ∷ [])) (plain_words n s)
         (joined (shows faults ∷ quiet ∷ [])) (joined (inner.marks ∷ [])) why
-        (passed_label (number_at n numeral) (at n kind.Colon colon) (plain_words n s) (joined (inner.marks ∷ [])) faults is)
+        (passed_label (number_at n numeral) (at n kind.Colon colon) (plain_words n s) (joined (inner.marks ∷ []))
+        faults is)
         (shows_alone (plain_words n s) inner.marks why h)

@@ -1,14 +1,14 @@
 -- What functions on targets and on the variable of a `for` answer.
-use Rattle.std.proofs.Common.{◌≡◌, refl, sym, ap, subst, ◌∙◌, ℕ, Bool, true, false, List, [], ◌∷◌, ◌++◌, map}
-use Rattle.std.proofs.Common.{Option, Some, None, Result, Ok, Err}
-use Rattle.std.specs.Prelude.{if◌then◌else◌, ◌≢◌}
+use Rattle.std.proofs.Common.{◌≡◌, refl, sym, ap, subst, ◌∙◌, ℕ, Bool, true, false, List, [], ◌∷◌, map}
+use Rattle.std.proofs.Common.{Option, Some, Result, Err}
+use Rattle.std.specs.Prelude.{◌≢◌}
 use Rattle.wb_base.specs.declared.faults.TheConstants.{WRONG_TYPE}
-use Rattle.pas_tokens.specs.Cutting.{Wrong, wrong}
+use Rattle.pas_tokens.specs.Cutting.{wrong}
 use Rattle.pas_tokens.specs.declared.kinds.Kind.TheVariants as kind
 use Rattle.pas_syntax.specs.declared.tree.Selector as code_selector
 use Rattle.pas_syntax.specs.declared.tree.Variable as code_variable
 use Rattle.pas_syntax.specs.declared.tree.Expr.TheOpen.{Selector-F}
-use Rattle.pas_syntax.specs.declared.tree.Expr.TheViews.{out-Selector, out-Variable}
+use Rattle.pas_syntax.specs.declared.tree.Expr.TheViews.{out-Variable}
 use Rattle.pas_syntax.specs.declared.tree.Expr.TheFolds.{fold_out-Selector, fold_out-Variable}
 use Rattle.pas_syntax.specs.Tree as tree
 use Rattle.pas_syntax.specs.Tree.{Expr, Factor, Sum, Term, Exprs, Variable}
@@ -20,13 +20,13 @@ use Rattle.pas_typed.specs.Typed as typed
 use Rattle.pas_typed.specs.Typed.{Slot, Value}
 use Rattle.pas_types.specs.declared.stop.Stop.{Stop}
 use Rattle.pas_types.specs.declared.stop.Stop.TheVariants as stop
-use Rattle.pas_types.specs.Marks.{Marks, no_token, quiet, joined, Judged, checked, means, refuses}
+use Rattle.pas_types.specs.Marks.{joined, Judged, checked, means, refuses}
 use Rattle.pas_types.specs.Scopes.{Scopes, variable}
 use Rattle.pas_types.specs.Expressions.{place_of, value_of}
 use Rattle.pas_types.specs.Statements.{Target, target_of, target_place, assigned_only, fits_target, assigned}
 use Rattle.pas_types.specs.Statements.{assignment_of, counts, for_variable}
-use Rattle.pas_types.specs.inner.Stopping.{shown_in, stop_before, demanded}
-use Rattle.pas_types.specs.inner.Answers.{IsQuiet, Means, Shows, StopsBy, ShowsBy, Settles}
+use Rattle.pas_types.specs.inner.Stopping.{shown_in, demanded}
+use Rattle.pas_types.specs.inner.Answers.{Means, StopsBy, ShowsBy}
 use Rattle.pas_types.specs.inner.FlowViews.{ShowsBefore, Precedes}
 use Rattle.pas_types.proofs.AsMany.{AsMany, all, checked_many}
 use Rattle.pas_types.proofs.ExpressionsAsMany.{value_many}

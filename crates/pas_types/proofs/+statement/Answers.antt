@@ -1,4 +1,4 @@
-use Rattle.std.proofs.Common.{◌≡◌, ◌∙◌, refl, sym, ap, subst, ℕ, ◌+◌, List, [], ◌∷◌, ◌++◌, Ok, Err, Some}
+use Rattle.std.proofs.Common.{◌≡◌, ◌∙◌, sym, ap, subst, ℕ, ◌+◌, List, [], ◌∷◌, ◌++◌, Ok, Err, Some}
 use Rattle.std.proofs.Common.{rules, Option, None, Result, map, take, drop, suc}
 use Rattle.std.specs.Prelude.{ℤ, OnOk, unwrap_or}
 use Rattle.std.proofs.lemmas.Result.{err_from_is_err_and}
@@ -24,7 +24,8 @@ use Rattle.pas_syntax.specs.ProgramViews.{arguments_in, plain_in, statement_in, 
 use Rattle.pas_syntax.specs.ProgramViews.{Arm, element_in, elements_in, more_element_in, others_in}
 use Rattle.pas_syntax.specs.inner.StatementReaders.{ForHead}
 use Rattle.pas_syntax.specs.inner.StatementViews.{for_head_in, assignment_in}
-use Rattle.pas_syntax.proofs.StatementSeen.{others_seen, unlabelled_seen, goto_seen, assignment_seen, plain_compound_seen}
+use Rattle.pas_syntax.proofs.StatementSeen.{others_seen, unlabelled_seen, goto_seen, assignment_seen}
+use Rattle.pas_syntax.proofs.StatementSeen.{plain_compound_seen}
 use Rattle.pas_typed.specs.declared.typed.Labelled as code_labelled
 use Rattle.pas_typed.specs.declared.typed.Statement as code_statement
 use Rattle.pas_typed.specs.declared.typed.Statement.TheViews.{roll-Labelled}
@@ -40,7 +41,7 @@ use Rattle.pas_types.specs.declared.flow.Flow.{Flow}
 use Rattle.pas_types.specs.declared.scopes.Scopes.{Scopes as CodeScopes}
 use Rattle.pas_types.specs.declared.stop.Stop.{Stop}
 use Rattle.pas_types.specs.Marks.{Judged, checked}
-use Rattle.pas_types.specs.Scopes.{Scopes, entity_of}
+use Rattle.pas_types.specs.Scopes.{Scopes}
 use Rattle.pas_types.specs.Labels.{Spot, in_list, elsewhere, label_faults, goto_of, labels_in, labels_at}
 use Rattle.pas_types.specs.Labels.{labels_in_list, labels_in_elements, labels_in_others, labels_of_list}
 use Rattle.pas_types.specs.Expressions.{ordinal_only, value_of}
@@ -79,7 +80,8 @@ use Rattle.pas_types.proofs.CaseParts.{selector_stops, case_arms_stop, case_othe
 use Rattle.pas_types.proofs.+statement.Goals as goal
 
 -- `compound`
-pub statements::compound_of-returns-in_err-list-clause-means : goal.statements::compound_of-returns-in_err-list-clause-means
+pub statements::compound_of-returns-in_err-list-clause-means :
+    goal.statements::compound_of-returns-in_err-list-clause-means
 statements::compound_of-returns-in_err-list-clause-means t c begin around before flow clear n =
     let spellings = c.args.scopes.now.spellings.now in
     let s : Scopes = scopes_view c.args.scopes.now in
@@ -250,7 +252,8 @@ statements::repeat_of-returns-clause-means t c line around before flow clear n =
     (c.in_ok-test.ensures clear (n + 1)))
 
 -- lists
-pub statements::statements_of-returns-in_err-found-clause-means : goal.statements::statements_of-returns-in_err-found-clause-means
+pub statements::statements_of-returns-in_err-found-clause-means :
+    goal.statements::statements_of-returns-in_err-found-clause-means
 statements::statements_of-returns-in_err-found-clause-means t c around before flow clear n =
     let spellings = c.args.scopes.now.spellings.now in
     let s : Scopes = scopes_view c.args.scopes.now in
@@ -283,7 +286,8 @@ statements::statements_of-returns-clause-goes t c around before flow =
     (enters s around before c.args.flow.now labels c.enter.new.self (c.in_ok-enter.ensures spellings) flow))
 
 -- a statement of a list
-pub statements::labelled-returns-in_err-statement_of-clause-means : goal.statements::labelled-returns-in_err-statement_of-clause-means
+pub statements::labelled-returns-in_err-statement_of-clause-means :
+    goal.statements::labelled-returns-in_err-statement_of-clause-means
 statements::labelled-returns-in_err-statement_of-clause-means t c around before flow clear n =
     let spellings = c.args.scopes.now.spellings.now in
     let s : Scopes = scopes_view c.args.scopes.now in
@@ -433,7 +437,8 @@ statements::in_turn-returns-clause-goes t c around before flow =
     c.loop-next.flow)) c.in_ok-found.was (c.loop-next.invariant.goes around before flow))
 
 -- a statement, and one behind a label
-pub statements::statement_of-returns-in-Unlabelled-clause-means : goal.statements::statement_of-returns-in-Unlabelled-clause-means
+pub statements::statement_of-returns-in-Unlabelled-clause-means :
+    goal.statements::statement_of-returns-in-Unlabelled-clause-means
 statements::statement_of-returns-in-Unlabelled-clause-means t c around before flow clear n =
     let spellings = c.args.scopes.now.spellings.now in
     let s : Scopes = scopes_view c.args.scopes.now in
@@ -616,7 +621,8 @@ moved : (scopes : CodeScopes) (flow : Flow) (s other : Plain) (result : Result c
     → s ≡ other → IsPlain scopes flow s result → IsPlain scopes flow other result
 moved scopes flow s other result is h = subst (λ (part : Plain). IsPlain scopes flow part result) is h
 
-pub statements::plain_of-returns-in-Assignment-clause-means : goal.statements::plain_of-returns-in-Assignment-clause-means
+pub statements::plain_of-returns-in-Assignment-clause-means :
+    goal.statements::plain_of-returns-in-Assignment-clause-means
 statements::plain_of-returns-in-Assignment-clause-means t c =
     let spellings = c.args.scopes.now.spellings.now in
     moved c.args.scopes.now c.args.flow.now (assignment_in spellings c.get.result.now)
@@ -732,7 +738,8 @@ PartMeans s n spellings around before found part =
     Means (statement_words n (statement_in spellings part))
     (statement_of s elsewhere around before (statement_in spellings part)) found
 
-pub statements::plain_of-returns-in_err-test-in-IfElse-clause-means : goal.statements::plain_of-returns-in_err-test-in-IfElse-clause-means
+pub statements::plain_of-returns-in_err-test-in-IfElse-clause-means :
+    goal.statements::plain_of-returns-in_err-test-in-IfElse-clause-means
 statements::plain_of-returns-in_err-test-in-IfElse-clause-means t c around before flow clear n =
     let spellings = c.args.scopes.now.spellings.now in
     let s : Scopes = scopes_view c.args.scopes.now in
@@ -752,7 +759,8 @@ statements::plain_of-returns-in_err-test-in-IfElse-clause-means t c around befor
     (test_of s (expr_in spellings guard.value)).marks why) c.get-in-IfElse.ensures
     (c.in_err-test-in-IfElse.ensures clear (n + 1)))))
 
-pub statements::plain_of-returns-in_err-chosen-in-IfElse-clause-means : goal.statements::plain_of-returns-in_err-chosen-in-IfElse-clause-means
+pub statements::plain_of-returns-in_err-chosen-in-IfElse-clause-means :
+    goal.statements::plain_of-returns-in_err-chosen-in-IfElse-clause-means
 statements::plain_of-returns-in_err-chosen-in-IfElse-clause-means t c around before flow clear n =
     let spellings = c.args.scopes.now.spellings.now in
     let s : Scopes = scopes_view c.args.scopes.now in
@@ -786,10 +794,12 @@ before_other : {X : Type 0} (s : Scopes) (around before labels : List ℕ) (new 
     (found : Result X Stop) → Ok last ≡ found_before line found
     → OnOk found (IsFlow s around (before ++ labels) new) → IsFlow s around (before ++ labels) new
 before_other s around before labels new line last found is h =
-    subst (λ (r : Result _ Stop). OnOk r (IsFlow s around (before ++ labels) new)) (sym (before_found line last found is))
+    subst (λ (r : Result _ Stop). OnOk r (IsFlow s around (before ++ labels) new))
+    (sym (before_found line last found is))
     h
 
-pub statements::plain_of-returns-in_err-other-in-IfElse-clause-means : goal.statements::plain_of-returns-in_err-other-in-IfElse-clause-means
+pub statements::plain_of-returns-in_err-other-in-IfElse-clause-means :
+    goal.statements::plain_of-returns-in_err-other-in-IfElse-clause-means
 statements::plain_of-returns-in_err-other-in-IfElse-clause-means t c around before flow clear n =
     let spellings = c.args.scopes.now.spellings.now in
     let s : Scopes = scopes_view c.args.scopes.now in
@@ -829,7 +839,8 @@ statements::plain_of-returns-in_err-other-in-IfElse-clause-means t c around befo
     c.get-in-IfElse-3.ensures
     (c.in_err-other-in-IfElse.ensures.means around (before ++ labels) behind clear (n + 1)))))
 
-pub statements::plain_of-returns-in_ok-if_else-in-IfElse-clause-means : goal.statements::plain_of-returns-in_ok-if_else-in-IfElse-clause-means
+pub statements::plain_of-returns-in_ok-if_else-in-IfElse-clause-means :
+    goal.statements::plain_of-returns-in_ok-if_else-in-IfElse-clause-means
 statements::plain_of-returns-in_ok-if_else-in-IfElse-clause-means t c around before flow clear n =
     let spellings = c.args.scopes.now.spellings.now in
     let s : Scopes = scopes_view c.args.scopes.now in
@@ -866,7 +877,8 @@ statements::plain_of-returns-in_ok-if_else-in-IfElse-clause-means t c around bef
     (subst (PartMeans s (n + 1) spellings around (before ++ labels) last) c.get-in-IfElse-3.ensures
     (c.in_ok-other-in-IfElse.ensures.means around (before ++ labels) behind clear (n + 1)))))
 
-pub statements::plain_of-returns-in_ok-if_else-in-IfElse-clause-goes : goal.statements::plain_of-returns-in_ok-if_else-in-IfElse-clause-goes
+pub statements::plain_of-returns-in_ok-if_else-in-IfElse-clause-goes :
+    goal.statements::plain_of-returns-in_ok-if_else-in-IfElse-clause-goes
 statements::plain_of-returns-in_ok-if_else-in-IfElse-clause-goes t c around before flow =
     let spellings = c.args.scopes.now.spellings.now in
     let s : Scopes = scopes_view c.args.scopes.now in
@@ -996,7 +1008,8 @@ cases::others_of-returns-in_err-before-in-Others-clause-means t c around before 
     let at : line ≡ unwrap_or semicolon end = search rules in
     precedes_stop end (others_words n whole) (others_of s around before whole) (others_view spellings) why
     c.from_residual.result (err_from_is_err_and _ c.from_residual.ensures.1)
-    (subst (λ (tail : Others). ShowsBefore end (others_words n tail) (others_of s around before tail).marks why) (sym is)
+    (subst (λ (tail : Others). ShowsBefore end (others_words n tail) (others_of s around before tail).marks why)
+    (sym is)
     (others_stop s around before n head.semicolon head.line head.colon (statement_in spellings part) end semicolon why
     (subst (λ (line : ℕ). ShowsBefore line (statement_words n (statement_in spellings part))
     (statement_of s elsewhere around before (statement_in spellings part)).marks why) at
@@ -1048,7 +1061,8 @@ cases::arms_of-loop-next-preserved t c =
     (arms_so_far spellings first (take (index + 1) items)) arms then_taken found) (sym c.in_ok-push.ensures.ok)
     (subst (λ (whole : Elements). AreArmsSoFar scopes old new base whole (c.loop-next.arms ++ last ∷ []) then_taken
     found) (sym (one_arm_taken spellings first items index next c.loop-next-test.true c.next-item.is))
-    (next_arm_so_far scopes base old here new elements line (arm_at spellings next) c.loop-next.arms taken then_taken last
+    (next_arm_so_far scopes base old here new elements line (arm_at spellings next)
+    c.loop-next.arms taken then_taken last
     found was c.arm_of-found-in-loop-next.ensures.means c.arm_of-found-in-loop-next.ensures.goes
     c.arm_of-found-in-loop-next.ensures.taken))
 

@@ -1,4 +1,4 @@
-use Rattle.std.proofs.Common.{◌+◌, map, take}
+use Rattle.std.proofs.Common.{map, take}
 use Rattle.pas_syntax.specs.declared.tree.Others.TheViews.{out-Statements, out-Elements}
 use Rattle.pas_syntax.specs.Tree as tree
 use Rattle.pas_syntax.specs.Views.{in_turn}

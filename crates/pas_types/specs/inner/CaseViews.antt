@@ -1,5 +1,5 @@
 -- What functions on cases answer.
-use Rattle.std.specs.Prelude.{◌≡◌, ℕ, ℤ, List, [], ◌∷◌, ◌++◌, Option, Some, None, Result, Ok, Err}
+use Rattle.std.specs.Prelude.{ℕ, ℤ, List, [], ◌∷◌, ◌++◌, Option, Some, None, Result, Ok, Err}
 use Rattle.pas_tokens.specs.declared.kinds.Kind.TheVariants as k
 use Rattle.pas_syntax.specs.Tree as tree
 use Rattle.pas_syntax.specs.Tree.{Separated, Constant, Statement, Elements, Others}
@@ -18,7 +18,7 @@ use Rattle.pas_types.specs.declared.scopes.Scopes.{Scopes as CodeScopes}
 use Rattle.pas_types.specs.declared.stop.Stop.{Stop}
 use Rattle.pas_types.specs.Marks.{Judged, judged, quiet, joined, known, both, checked}
 use Rattle.pas_types.specs.Scopes.{Scopes}
-use Rattle.pas_types.specs.TypeForms.{ConstantValue, constant_of}
+use Rattle.pas_types.specs.TypeForms.{constant_of}
 use Rattle.pas_types.specs.Labels.{elsewhere}
 use Rattle.pas_types.specs.Statements.{fits_case, constants_of, statement_of, arms_of, others_of}
 use Rattle.pas_types.specs.ScopeViews.{scopes_view, IsClear}

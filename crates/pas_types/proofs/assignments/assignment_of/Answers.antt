@@ -1,24 +1,22 @@
-use Rattle.std.proofs.Common.{◌≡◌, sym, ap, subst, ◌∙◌, List, Bool, Some, Option}
+use Rattle.std.proofs.Common.{◌≡◌, sym, ap, subst, ◌∙◌, List, Bool, Some}
 use Rattle.std.proofs.lemmas.Result.{err_from_is_err_and}
 use Rattle.wb_base.specs.declared.faults.TheConstants.{WRONG_TYPE}
 use Rattle.pas_tokens.specs.Cutting.{Wrong, wrong}
 use Rattle.pas_syntax.specs.Tree as tree
 use Rattle.pas_syntax.specs.Tree.{Variable, Expr}
 use Rattle.pas_syntax.specs.Views.{variable_in, expr_in}
-use Rattle.pas_syntax.specs.Words.{Word, variable_words, expr_words, plain_words}
-use Rattle.pas_typed.specs.Types.{PasType, are_compatible}
+use Rattle.pas_syntax.specs.Words.{expr_words, plain_words}
+use Rattle.pas_typed.specs.Types.{are_compatible}
 use Rattle.pas_typed.specs.Typed as typed
 use Rattle.pas_typed.specs.Typed.{Value}
-use Rattle.pas_typed.specs.TypeOf.{type_of}
-use Rattle.pas_typed.specs.TypeViews.{table_view, type_view}
 use Rattle.pas_typed.specs.TypedViews.{value_view, statement_view}
 use Rattle.pas_types.specs.declared.assignments.Target.{Target as CodeTarget}
-use Rattle.pas_types.specs.Marks.{Judged, checked, unless}
+use Rattle.pas_types.specs.Marks.{checked, unless}
 use Rattle.pas_types.specs.Scopes.{Scopes}
 use Rattle.pas_types.specs.Expressions.{value_of}
-use Rattle.pas_types.specs.Statements.{Target, type_of_target, target_of, fits_target, assigned, assignment_of}
+use Rattle.pas_types.specs.Statements.{Target, target_of, fits_target, assigned, assignment_of}
 use Rattle.pas_types.specs.ScopeViews.{scopes_view}
-use Rattle.pas_types.specs.inner.Answers.{Means, Settles}
+use Rattle.pas_types.specs.inner.Answers.{Means}
 use Rattle.pas_types.specs.inner.TargetViews.{target_view}
 use Rattle.pas_types.proofs.AnswerLemmas.{checked_stops_by}
 use Rattle.pas_types.proofs.SettleLemmas.{settles_stop, settles_why}

@@ -1,4 +1,4 @@
-use Rattle.std.proofs.Common.{◌≡◌, ap, List, Bool, not, Result}
+use Rattle.std.proofs.Common.{ap, List, Bool, not, Result}
 use Rattle.std.proofs.lemmas.Result.{err_from_is_err_and}
 use Rattle.wb_base.specs.declared.faults.TheConstants.{WRONG_TYPE}
 use Rattle.pas_tokens.specs.Cutting.{Wrong, wrong}

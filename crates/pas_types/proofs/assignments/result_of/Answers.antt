@@ -1,4 +1,4 @@
-use Rattle.std.proofs.Common.{refl, ap, subst, List, [], ◌∷◌, option_map}
+use Rattle.std.proofs.Common.{refl, ap, subst, [], ◌∷◌, option_map}
 use Rattle.pas_syntax.specs.Views.{ident_in}
 use Rattle.pas_syntax.specs.Words.{Word, name_at}
 use Rattle.pas_typed.specs.TypeViews.{type_view}

@@ -1,17 +1,16 @@
-use Rattle.std.proofs.Common.{rules, ◌≡◌, sym, ap, subst, ◌∙◌, List, [], ◌∷◌}
+use Rattle.std.proofs.Common.{rules, ◌≡◌, sym, subst, []}
 use Rattle.std.specs.Prelude.{◌≢◌}
 use Rattle.std.proofs.lemmas.Result.{err_from_is_err_and}
 use Rattle.pas_syntax.specs.Tree.{Variable}
 use Rattle.pas_syntax.specs.Views.{variable_in}
-use Rattle.pas_syntax.specs.Words.{Word, variable_words}
-use Rattle.pas_typed.specs.Typed.{Place}
+use Rattle.pas_syntax.specs.Words.{variable_words}
 use Rattle.pas_typed.specs.TypedViews.{place_view}
 use Rattle.pas_types.specs.Marks.{Judged}
 use Rattle.pas_types.specs.Scopes.{Scopes}
 use Rattle.pas_types.specs.Expressions.{place_of}
-use Rattle.pas_types.specs.Statements.{Target, place, target_of, target_place}
+use Rattle.pas_types.specs.Statements.{Target, place, target_of}
 use Rattle.pas_types.specs.ScopeViews.{scopes_view}
-use Rattle.pas_types.specs.inner.Answers.{Ending, end_in, EndsAs, Answers, StopsBy}
+use Rattle.pas_types.specs.inner.Answers.{end_in, EndsAs, Answers, StopsBy}
 use Rattle.pas_types.specs.inner.TargetViews.{target_view}
 use Rattle.pas_types.proofs.AnswerLemmas.{answers_stop, made_ends, made_stops}
 use Rattle.pas_types.proofs.TargetLemmas.{part_target, name_alone}

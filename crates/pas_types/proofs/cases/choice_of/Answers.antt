@@ -1,4 +1,4 @@
-use Rattle.std.proofs.Common.{rules, ◌≡◌, sym, ap, subst, ◌∙◌, List, Bool, true, not, Option, Some}
+use Rattle.std.proofs.Common.{rules, ◌≡◌, ap, ◌∙◌, List, true, not, Option, Some}
 use Rattle.std.specs.Prelude.{ℤ}
 use Rattle.std.specs.List.{list_any}
 use Rattle.std.specs.Ordering.{int_eq}
@@ -11,7 +11,7 @@ use Rattle.pas_typed.specs.TypeViews.{base_view}
 use Rattle.pas_types.specs.Marks.{known}
 use Rattle.pas_types.specs.Scopes.{Scopes}
 use Rattle.pas_types.specs.TypeForms.{ConstantValue, constant_of}
-use Rattle.pas_types.specs.Statements.{fits_case, has_value}
+use Rattle.pas_types.specs.Statements.{fits_case}
 use Rattle.pas_types.specs.ScopeViews.{scopes_view}
 use Rattle.pas_types.specs.inner.Constants.{ordinal_view}
 use Rattle.pas_types.specs.inner.CaseViews.{choice_part}

@@ -1,4 +1,4 @@
-use Rattle.std.proofs.Common.{rules, ◌≡◌, sym, ap, subst, ◌∙◌, ℕ, suc, ◌+◌, List, [], ◌∷◌, ◌++◌, map, take, drop}
+use Rattle.std.proofs.Common.{rules, ◌≡◌, sym, ap, subst, ◌∙◌, suc, ◌+◌, List, [], ◌∷◌, ◌++◌, map, take, drop}
 use Rattle.std.proofs.Common.{get_or, Some, None}
 use Rattle.std.specs.Prelude.{ℤ}
 use Rattle.std.proofs.lemmas.List.{append_assoc}
@@ -9,7 +9,7 @@ use Rattle.pas_syntax.specs.declared.tree.Constant.{Constant as CodeConstant}
 use Rattle.pas_syntax.specs.declared.tree.Constant.TheVariants as code
 use Rattle.pas_syntax.specs.Tree.{Behind, Separated, Constant}
 use Rattle.pas_syntax.specs.Views.{constant_in, behind_in, separated_in}
-use Rattle.pas_syntax.specs.Words.{Word, constant_words, separated}
+use Rattle.pas_syntax.specs.Words.{constant_words, separated}
 use Rattle.pas_typed.specs.Types.{Base}
 use Rattle.pas_typed.specs.TypeViews.{base_view}
 use Rattle.pas_types.specs.Scopes.{Scopes}

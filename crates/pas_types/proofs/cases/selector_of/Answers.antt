@@ -1,4 +1,4 @@
-use Rattle.std.proofs.Common.{◌≡◌, refl, sym, ap, subst, ◌∙◌, List, Bool, true, false, Option, Some, None, Ok, Err}
+use Rattle.std.proofs.Common.{◌≡◌, sym, ap, subst, ◌∙◌, List, Bool, true, false, Option}
 use Rattle.std.proofs.Common.{Result}
 use Rattle.std.specs.Prelude.{option_map}
 use Rattle.std.specs.Prelude.{is_some, IfOk, OnOk}
@@ -13,10 +13,10 @@ use Rattle.pas_typed.specs.declared.types.Base.{Base as CodeBase}
 use Rattle.pas_typed.specs.Types.{Base, PasType, base_of}
 use Rattle.pas_typed.specs.Typed.{Value}
 use Rattle.pas_typed.specs.TypeOf.{type_of}
-use Rattle.pas_typed.specs.TypeViews.{base_view, type_view, table_view}
+use Rattle.pas_typed.specs.TypeViews.{base_view}
 use Rattle.pas_typed.specs.TypedViews.{value_view}
 use Rattle.pas_types.specs.declared.stop.Stop.{Stop}
-use Rattle.pas_types.specs.Marks.{Judged, checked, unless}
+use Rattle.pas_types.specs.Marks.{checked, unless}
 use Rattle.pas_types.specs.Scopes.{Scopes}
 use Rattle.pas_types.specs.Expressions.{ordinal_only, value_of}
 use Rattle.pas_types.specs.ScopeViews.{scopes_view}

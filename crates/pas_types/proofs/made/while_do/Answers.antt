@@ -1,4 +1,4 @@
-use Rattle.std.proofs.Common.{◌≡◌, ap, ◌∙◌}
+use Rattle.std.proofs.Common.{ap, ◌∙◌}
 use Rattle.pas_typed.specs.declared.typed.Value as code_value
 use Rattle.pas_typed.specs.Typed as typed
 use Rattle.pas_typed.specs.TypedViews.{value_view, statement_view}

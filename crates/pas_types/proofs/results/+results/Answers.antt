@@ -1,9 +1,6 @@
-use Rattle.std.proofs.Common.{◌≡◌, sym, ap, subst, ◌∙◌, ℕ, List, [], ◌∷◌, Bool, true, false, ◌||◌}
+use Rattle.std.proofs.Common.{◌≡◌, sym, ap, ◌∙◌, ℕ, List, Bool, ◌||◌}
 use Rattle.pas_typed.specs.declared.typed.Statement as code_statement
-use Rattle.pas_typed.specs.declared.typed.Labelled as code_labelled
-use Rattle.pas_typed.specs.declared.typed.Arm as code_arm
-use Rattle.pas_typed.specs.Typed as typed
-use Rattle.pas_typed.specs.TypedViews.{statement_view, statements_view, arms_view}
+use Rattle.pas_typed.specs.TypedViews.{statement_view}
 use Rattle.pas_typed.proofs.StatementViews.{statement_view-Compound, statement_view-If, statement_view-IfElse}
 use Rattle.pas_typed.proofs.StatementViews.{statement_view-Case, statement_view-CaseOthers, statement_view-While}
 use Rattle.pas_typed.proofs.StatementViews.{statement_view-Repeat, statement_view-For}

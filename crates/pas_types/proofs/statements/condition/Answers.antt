@@ -1,4 +1,4 @@
-use Rattle.std.proofs.Common.{◌≡◌, ap, sym, ◌∙◌, Bool, List}
+use Rattle.std.proofs.Common.{ap, ◌∙◌, Bool, List}
 use Rattle.std.proofs.lemmas.Result.{err_from_is_err_and}
 use Rattle.wb_base.specs.declared.faults.TheConstants.{WRONG_TYPE}
 use Rattle.pas_tokens.specs.Cutting.{Wrong, wrong}
@@ -6,7 +6,7 @@ use Rattle.pas_syntax.specs.Views.{expr_in}
 use Rattle.pas_syntax.specs.Words.{Word, expr_words}
 use Rattle.pas_typed.specs.Types.{boolean, is_of, PasType}
 use Rattle.pas_typed.specs.Typed.{Value}
-use Rattle.pas_typed.specs.TypeViews.{type_view, table_view}
+use Rattle.pas_typed.specs.TypeViews.{table_view}
 use Rattle.pas_typed.specs.TypedViews.{value_view}
 use Rattle.pas_types.specs.Marks.{Judged, checked, unless}
 use Rattle.pas_types.specs.Expressions.{only, value_of}

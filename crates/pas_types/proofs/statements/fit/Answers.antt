@@ -1,4 +1,4 @@
-use Rattle.std.proofs.Common.{◌≡◌, ◌∙◌}
+use Rattle.std.proofs.Common.{◌∙◌}
 use Rattle.wb_base.specs.declared.faults.TheConstants.{WRONG_TYPE}
 use Rattle.pas_typed.specs.TypedViews.{value_view}
 use Rattle.pas_types.specs.inner.Answers.{end_in, noted_end, settled_by}

@@ -1,4 +1,4 @@
-use Rattle.std.proofs.Common.{sym, subst, List, [], ◌∷◌}
+use Rattle.std.proofs.Common.{sym, subst, [], ◌∷◌}
 use Rattle.pas_syntax.specs.Views.{numeral_in}
 use Rattle.pas_syntax.specs.Words.{Word, number_at}
 use Rattle.pas_typed.specs.Typed as typed

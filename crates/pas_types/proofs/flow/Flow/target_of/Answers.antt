@@ -1,4 +1,4 @@
-use Rattle.std.proofs.Common.{◌≡◌, ap, sym, subst, ◌∙◌, List, [], ◌∷◌, Option}
+use Rattle.std.proofs.Common.{ap, sym, subst, ◌∙◌, [], ◌∷◌, Option}
 use Rattle.std.specs.Option.{option_copied}
 use Rattle.pas_syntax.specs.Views.{numeral_in}
 use Rattle.pas_syntax.specs.Words.{number_at}
