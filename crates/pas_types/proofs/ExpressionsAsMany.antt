@@ -88,7 +88,7 @@ indexed_many table index place None h =
 indexed_many table index place (Some found) h =
     checked_many (only found.indexes.base table) index h
 
-element_many : {words : List Word} (table : Table) (index : Judged Value) (place : Option Place)
+pub element_many : {words : List Word} (table : Table) (index : Judged Value) (place : Option Place)
     → AsMany words index.marks → AsMany words (element_by table index place).marks
 element_many table index None h = h
 element_many table index (Some place) h =
@@ -104,7 +104,7 @@ field_in_many : (word : Word) (name : List ℕ) (place : Place) (found : Option 
 field_in_many word name place None = one word _
 field_in_many word name place (Some found) = field_at_many word place found _
 
-field_many : (word : Word) (table : Table) (name : List ℕ) (place : Option Place)
+pub field_many : (word : Word) (table : Table) (name : List ℕ) (place : Option Place)
     → AsMany (word ∷ []) (field_by table name place).marks
 field_many word table name None = one word _
 field_many word table name (Some place) =

@@ -9,3 +9,5 @@ pub mod TypeAnswers
 pub mod FlowViews
 pub mod TargetViews
 pub mod CaseViews
+pub mod Arguments
+pub mod ExpressionAnswers

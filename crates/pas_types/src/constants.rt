@@ -122,7 +122,7 @@ pub(crate) fn char_of(scopes: &Scopes<'_>, quoted: Quoted) -> Result<Ordinal, St
 }
 
 // The byte of a string that has one alone, in which a quote stands twice.
-fn single_byte(text: &[u8]) -> Option<u8>
+pub(crate) fn single_byte(text: &[u8]) -> Option<u8>
     ensures { result ≡ only_byte (spec.undoubled text.now) }
 {
     match text.len() {

@@ -1,6 +1,8 @@
 //! Parts that were looked at.
 ghost use Rattle.std.specs.Prelude.{◌≡◌};
-ghost use Rattle.pas_types.specs.inner.Stopping.{wrong_in, found_before};
+ghost use Rattle.pas_tokens.specs.Cutting.{wrong};
+ghost use Rattle.pas_types.specs.inner.Ends.{lower_of};
+ghost use Rattle.pas_types.specs.inner.Stopping.{wrong_in, shown_in, found_before};
 ghost use Rattle.pas_types.specs.inner.Answers.{end_in, lawful_end, short_end, refused_end, noted_end, closed_end};
 ghost use Rattle.pas_types.specs.inner.Answers.{stands_by, settled_by, Closes};
 
@@ -61,15 +63,31 @@ impl End {
         }
     }
 
+    // The lower of the fault that the last token shows, and of this one.
+    fn lower(self, found: Wrong) -> Wrong
+        ensures { wrong_in result ≡ lower_of (end_in self).refusal (wrong_in found) }
+    {
+        match self.refusal {
+            Some(lower) if lower.code <= found.code => lower,
+            _ => found,
+        }
+    }
+
     // This, with a fault of the last token.
     fn refused(self, found: Wrong) -> End
         ensures { end_in result ≡ refused_end (end_in self) (wrong_in found) }
     {
-        let refusal = match self.refusal {
-            Some(lower) if lower.code <= found.code => Some(lower),
-            _ => Some(found),
-        };
-        End { refusal, ..self }
+        End {
+            refusal: Some(self.lower(found)),
+            ..self
+        }
+    }
+
+    // Why the part is refused, where its last token shows this fault too.
+    pub(crate) fn shows(self, code: u16) -> Stop
+        ensures { result ≡ shown_in (end_in self).line (lower_of (end_in self).refusal (wrong code)) }
+    {
+        shown(self.lower(Wrong { code, which: 0 }), self.line)
     }
 
     // Refuses the part by the fault of its last token.

@@ -7,6 +7,7 @@ mod cases;
 mod constants;
 mod expressions;
 mod flow;
+mod functions;
 mod judged;
 mod labels;
 mod limits;
