@@ -6,7 +6,6 @@ use Rattle.std.specs.Prelude.{ℤ, not, if◌then◌else◌, ◌||◌, unwrap_or
 use Rattle.std.specs.Ordering.{int_eq}
 use Rattle.std.specs.List.{list_any}
 use Rattle.std.proofs.lemmas.Grind.{common_steps}
-use Rattle.std.proofs.lemmas.Option.{none-some}
 use Rattle.std.proofs.lemmas.List.{append_assoc, append-nil, take-append-drop, take_more}
 use Rattle.wb_base.specs.declared.faults.Fault.{Fault}
 use Rattle.wb_base.specs.declared.faults.TheConstants.{WRONG_TYPE, DUPLICATE_NAME}
@@ -24,7 +23,7 @@ use Rattle.pas_types.specs.TypeForms.{ConstantValue, constant_of}
 use Rattle.pas_types.specs.Statements.{is_same, has_value, fits_case, values_known, with_constant, more_constants}
 use Rattle.pas_types.specs.Statements.{constants_of}
 use Rattle.pas_types.specs.inner.Stopping.{demanded}
-use Rattle.pas_types.specs.inner.Answers.{lawful_end, EndsAs, Means, Shows, FailsBy, Settles}
+use Rattle.pas_types.specs.inner.Answers.{lawful_end, EndsAs, Means, Shows, FailsBy}
 use Rattle.pas_types.specs.inner.CaseViews.{Holds, choice_part}
 use Rattle.pas_types.proofs.AsMany.{AsMany, all, next_word, checked_many}
 use Rattle.pas_types.proofs.TypesAsMany.{constant_many}
@@ -85,15 +84,6 @@ pub base_demanded : (holds : Bool) (code line : ℕ) (done : Unit {0}) → Ok do
     → holds ≡ true
 base_demanded true code line done is = refl
 base_demanded false code line done is = cc
-
--- a selector that was demanded to be what it is not
-pub never_fits : {X A : Type 0} (words : List Word) (part : Judged A) (view : X → A) (value : A) (found : X)
-    → part.value ≡ Some value
-    → Settles words (checked (λ (found : A). wrong WRONG_TYPE ∷ []) part) view (Ok found) → ⊥
-never_fits {A = A} words part view value found is h =
-    none-some (view found)
-    (sym (ap (λ (known : Option A). (checked_by (λ (found : A). wrong WRONG_TYPE ∷ []) part.marks known).value) is)
-    ∙ h.known)
 
 -- constants one after another
 module _ (scopes : Scopes) (base : Base) (before : List ℤ) (n : ℕ) where

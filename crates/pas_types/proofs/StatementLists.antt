@@ -198,14 +198,11 @@ module _ (scopes : CodeScopes) where
     goes = goes;
   }
 
-  on_ok : {X : Type 0} (P : Type 0) (x : X) → OnOk {E = Stop} (Ok x) P → P
-  on_ok P x h = h
-
-  behind_ok : {X : Type 0} (scopes : Scopes) (around before one other : List ℕ) (new : Flow) (found : Result X Stop)
-      → OnOk found (IsFlow scopes around ((before ++ one) ++ other) new)
-      → OnOk found (IsFlow scopes around (before ++ (one ++ other)) new)
-  behind_ok scopes around before one other new (Ok x) h = regroup scopes around before new one other h
-  behind_ok scopes around before one other new (Err why) h = tt
+  behind_ok : {X : Type 0} (scopes : Scopes) (around before here behind : List ℕ) (new : Flow) (found : Result X Stop)
+      → OnOk found (IsFlow scopes around ((before ++ here) ++ behind) new)
+      → OnOk found (IsFlow scopes around (before ++ (here ++ behind)) new)
+  behind_ok scopes around before here behind new (Ok x) h = regroup scopes around before new here behind h
+  behind_ok scopes around before here behind new (Err why) h = tt
 
   pub next_so_far : (old here new : Flow) (list : Statements) (line : ℕ) (s : Statement)
       (statements : List code_labelled.Labelled) (last : code_labelled.Labelled)
