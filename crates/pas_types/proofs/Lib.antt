@@ -19,6 +19,16 @@ pub mod NumberLemmas
 pub mod ConstantLemmas
 pub mod SubrangeLemmas
 pub mod TypePartLemmas
+pub mod ChainLemmas
+pub mod StatementParts
+pub mod BodyLemmas
+pub mod FlowLemmas
+pub mod StatementLists
+pub mod TargetLemmas
+pub mod PlainSeen
+pub mod CaseLemmas
+pub mod ResultLemmas
+pub mod CaseParts
 pub mod FirstLemmas
 pub mod ExpressionWords
 pub mod OperatorLemmas

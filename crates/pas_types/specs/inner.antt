@@ -6,6 +6,9 @@ pub mod LabelViews
 pub mod LabelAnswers
 pub mod Constants
 pub mod TypeAnswers
+pub mod FlowViews
+pub mod TargetViews
+pub mod CaseViews
 pub mod Arguments
 pub mod ExpressionAnswers
 pub mod NameAnswers

@@ -2,19 +2,25 @@
 #![tactic(auto)]
 
 mod calls;
+mod assignments;
+mod cases;
 mod constants;
 mod declarations;
 mod expressions;
+mod flow;
 mod functions;
 mod judged;
 mod labels;
 mod limits;
+mod made;
 mod name_sets;
 mod names;
 mod new_names;
 mod noting;
+mod results;
 mod scopes;
 mod simple_types;
+mod statements;
 mod stop;
 mod transfers;
 mod type_forms;

@@ -2,8 +2,8 @@
 ghost use Rattle.std.specs.Prelude.{◌≡◌, ◌∷◌, [], ℕ, List, true, false, not, is_some, ◌&&◌, ◌||◌, map, Option};
 ghost use Rattle.std.specs.Prelude.{Some, None, option_map};
 ghost use Rattle.pas_syntax.specs.Views.{expr_in};
-ghost use Rattle.pas_syntax.specs.ProgramViews.{argument_in};
-ghost use Rattle.pas_syntax.specs.Words.{Word, expr_words, argument_words};
+ghost use Rattle.pas_syntax.specs.ProgramViews.{argument_in, arguments_in};
+ghost use Rattle.pas_syntax.specs.Words.{Word, expr_words, argument_words, arguments_words};
 ghost use Rattle.pas_typed.specs.Types.{component_of};
 ghost use Rattle.pas_typed.specs.Types as spec_type;
 ghost use Rattle.pas_typed.specs.Typed.{Value as SpecValue, Place as SpecPlace};
@@ -24,7 +24,7 @@ use crate::judged::Judged;
 use crate::scopes::Scopes;
 use crate::stop::{Stop, Wrong, fault};
 use crate::variables::whole;
-use pas_syntax::tree::{Argument, Expr};
+use pas_syntax::tree::{Argument, Arguments, Expr};
 use pas_typed::typed::{Item, Passed, Place, Slot, Statement, Value};
 use pas_typed::types::{Base, PasType};
 use sqlite_items::{Boxed, Items};
@@ -330,4 +330,36 @@ fn item_as(scopes: &Scopes<'_>, value: Value, width: Option<Value>) -> Item
     } else {
         Item::Number(value, width)
     }
+}
+
+// What `read` or `readln` with arguments means.
+pub(crate) fn read_call(
+    scopes: &Scopes<'_>,
+    line: u32,
+    extent: Extent,
+    arguments: &Arguments,
+) -> Result<Statement, Stop>
+    ensures { IsClear (scopes_view scopes.now) → (n : ℕ) (word : Word) → word.token.line ≡ line → Settles
+        (word ∷ arguments_words n (arguments_in scopes.now.spellings.now arguments.now))
+        (spec.procedure_of (scopes_view scopes.now) (reading extent) (spec.actuals_of (scopes_view scopes.now)
+        (arguments_in scopes.now.spellings.now arguments.now).items)) (statement_view scopes.now.spellings.now)
+        result }
+{
+    Err(Stop::OutOfMemory)
+}
+
+// What `write` or `writeln` with arguments means.
+pub(crate) fn write_call(
+    scopes: &Scopes<'_>,
+    line: u32,
+    extent: Extent,
+    arguments: &Arguments,
+) -> Result<Statement, Stop>
+    ensures { IsClear (scopes_view scopes.now) → (n : ℕ) (word : Word) → word.token.line ≡ line → Settles
+        (word ∷ arguments_words n (arguments_in scopes.now.spellings.now arguments.now))
+        (spec.procedure_of (scopes_view scopes.now) (writing extent) (spec.actuals_of (scopes_view scopes.now)
+        (arguments_in scopes.now.spellings.now arguments.now).items)) (statement_view scopes.now.spellings.now)
+        result }
+{
+    Err(Stop::OutOfMemory)
 }
