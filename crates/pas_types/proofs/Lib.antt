@@ -65,3 +65,7 @@ pub mod TypeRowLemmas
 pub mod TypeNoteLemmas
 pub mod TransferLemmas
 pub mod PrintLemmas
+pub mod GatherLemmas
+pub mod TransferItems
+pub mod FileLemmas
+pub mod TransferParts

@@ -15,3 +15,4 @@ pub mod NameAnswers
 pub mod FormAnswers
 pub mod Declared
 pub mod Transfers
+pub mod Listed

@@ -1,8 +1,8 @@
 //! The scopes and types of Pascal.
 #![tactic(auto)]
 
-mod calls;
 mod assignments;
+mod calls;
 mod cases;
 mod constants;
 mod declarations;

@@ -1,28 +1,33 @@
 //! Reading and writing (ISO 7185, 6.9, in this project's profile).
 ghost use Rattle.std.specs.Prelude.{◌≡◌, ◌∷◌, [], ℕ, List, true, false, not, is_some, ◌&&◌, ◌||◌, map, Option};
-ghost use Rattle.std.specs.Prelude.{Some, None, option_map};
+ghost use Rattle.std.specs.Prelude.{Some, None, option_map, option_and_then, slice_get, if◌then◌else◌, ◌+◌};
 ghost use Rattle.pas_syntax.specs.Views.{expr_in};
 ghost use Rattle.pas_syntax.specs.ProgramViews.{argument_in, arguments_in};
-ghost use Rattle.pas_syntax.specs.Words.{Word, expr_words, argument_words, arguments_words};
+ghost use Rattle.pas_tokens.specs.declared.kinds.Kind.TheVariants as k;
+ghost use Rattle.pas_syntax.specs.Words.{Word, at, expr_words, argument_words, arguments_words};
 ghost use Rattle.pas_typed.specs.Types.{component_of};
 ghost use Rattle.pas_typed.specs.Types as spec_type;
-ghost use Rattle.pas_typed.specs.Typed.{Value as SpecValue, Place as SpecPlace};
+ghost use Rattle.pas_typed.specs.Typed.{Value as SpecValue, Place as SpecPlace, read};
 ghost use Rattle.pas_typed.specs.TypeOf.{type_of, type_of_place};
 ghost use Rattle.pas_typed.specs.TypeViews.{type_view};
 ghost use Rattle.pas_typed.specs.TypedViews.{value_view, place_view, slot_view, item_view, statement_view};
 ghost use Rattle.pas_types.specs.Calls as spec;
 ghost use Rattle.pas_types.specs.Expressions as spec_value;
-ghost use Rattle.pas_types.specs.Marks.{checked, Judged as SpecJudged};
+ghost use Rattle.wb_base.specs.declared.faults.TheConstants.{FILE_RULE as FILE_RULE_CODE};
+ghost use Rattle.pas_tokens.specs.Cutting.{wrong};
+ghost use Rattle.pas_types.specs.Scopes.{Scopes as SpecScopes};
+ghost use Rattle.pas_types.specs.Marks.{checked, unless, Judged as SpecJudged};
 ghost use Rattle.pas_types.specs.ScopeViews.{scopes_view, IsClear};
 ghost use Rattle.pas_types.specs.inner.Answers.{end_in, EndsAs, Stands, Settles};
+ghost use Rattle.pas_types.specs.inner.Listed.{line_behind as spec_line_behind, items_behind, Gathers};
 ghost use Rattle.pas_types.specs.inner.Transfers.{reading, writing, extent_view, Makes, MeansFile, wrongs_in};
-ghost use Rattle.pas_types.specs.inner.Transfers.{place_by, width_refused};
+ghost use Rattle.pas_types.specs.inner.Transfers.{place_by, width_refused, refused_by, behind_actuals, NamesFile, IsFileAlone};
 
 use crate::expressions::{only, value_of};
 use crate::functions::place_alone;
 use crate::judged::Judged;
 use crate::scopes::Scopes;
-use crate::stop::{Stop, Wrong, fault};
+use crate::stop::{Stop, Wrong, demand, fault};
 use crate::variables::whole;
 use pas_syntax::tree::{Argument, Arguments, Expr};
 use pas_typed::typed::{Item, Passed, Place, Slot, Statement, Value};
@@ -332,6 +337,128 @@ fn item_as(scopes: &Scopes<'_>, value: Value, width: Option<Value>) -> Item
     }
 }
 
+// The line of the word behind an argument, of which this is the number among those behind the first one.
+fn line_behind(arguments: &Arguments, index: usize) -> u32
+    ensures { result ≡ spec_line_behind arguments.now.closed (slice_get arguments.now.items.more index) }
+{
+    match arguments.items.more.get(index) {
+        Some(more) => more.line,
+        None => arguments.closed,
+    }
+}
+
+// The file that an argument names, if it does: a variable by itself, as a file is no part of anything.
+fn named_file(scopes: &Scopes<'_>, argument: &Argument) -> Result<Option<Judged<Place>>, Stop>
+    ensures { IsClear (scopes_view scopes.now) → (n : ℕ)
+        → NamesFile (scopes_view scopes.now).outer.types
+        (expr_words n 0 (expr_in scopes.now.spellings.now argument.now.value))
+        (spec_value.value_of (scopes_view scopes.now) (expr_in scopes.now.spellings.now argument.now.value)) result }
+{
+    match value_of(scopes, &argument.value) {
+        Ok(found) => Ok(file_alone(scopes, found)),
+        Err(Stop::OutOfMemory) => Err(Stop::OutOfMemory),
+        Err(Stop::Fault(_)) => Ok(None),
+        Err(Stop::Missing) => Ok(None),
+    }
+}
+
+// The file that a value is, if it is a variable by itself.
+fn file_alone(scopes: &Scopes<'_>, found: Judged<Value>) -> Option<Judged<Place>>
+    ensures { (words : List Word) (part : SpecJudged SpecValue)
+        → EndsAs words part (value_view found.value) (end_in found.end)
+        → IsFileAlone (scopes_view scopes.now).outer.types words part result }
+{
+    let Judged { value, end } = found;
+    match value {
+        Value::Read(place) => {
+            let place = place.into_inner();
+            if is_file_alone(scopes, &place) {
+                Some(Judged { value: place, end })
+            } else {
+                None
+            }
+        }
+        _ => None,
+    }
+}
+
+// Whether a place is a file, and a variable by itself.
+fn is_file_alone(scopes: &Scopes<'_>, place: &Place) -> bool
+    ensures { spec.whole_file (scopes_view scopes.now).outer.types (read (place_view place.now))
+        ≡ (if result then Some (place_view place.now) else None) }
+{
+    place.parts.is_empty() && scopes.types.is_file(place.pas_type())
+}
+
+// The file that an argument names, behind which no width may stand. Only a text has lines.
+fn file_only(
+    extent: Extent,
+    argument: &Argument,
+    found: Judged<Place>,
+) -> Result<Judged<Place>, Stop>
+    ensures { (scopes : SpecScopes) (spellings : List ℕ) (n : ℕ)
+        → EndsAs (expr_words n 0 (expr_in spellings argument.now.value))
+        (spec_value.value_of scopes (expr_in spellings argument.now.value)) (read (place_view found.value))
+        (end_in found.end)
+        → Stands (argument_words n (argument_in spellings argument.now))
+        (spec_value.met (spec.demand_on_file (extent_view extent))
+        (spec.without_width (spec.actual_of scopes (argument_in spellings argument.now))))
+        (λ place. read (place_view place)) result }
+{
+    let has_lines = is_on(extent, found.value.pas_type());
+    let found = found.noted(has_lines, FILE_RULE);
+    found.end.stands()?;
+    no_width(argument)?;
+    Ok(found)
+}
+
+// Whether as much as this is read from a file of this type, or written on it.
+fn is_on(extent: Extent, file: PasType) -> bool
+    ensures { (value : SpecValue) → type_of value ≡ type_view file
+        → spec.demand_on_file (extent_view extent) value ≡ unless result (wrong FILE_RULE_CODE) }
+{
+    match extent {
+        Extent::ItemsAlone => true,
+        Extent::WholeLine => file.is(PasType::Text),
+    }
+}
+
+// Where items alone are read or written, there must be one behind the file. The parenthesis shows that none is.
+fn some_item(extent: Extent, arguments: &Arguments) -> Result<(), Stop>
+    ensures { (scopes : SpecScopes) (spellings : List ℕ) → result ≡ refused_by arguments.now.closed
+        (spec.missing_items (extent_view extent) (behind_actuals scopes spellings arguments.now.items.more)) }
+{
+    match extent {
+        Extent::ItemsAlone => demand(
+            !arguments.items.more.is_empty(),
+            WRONG_TYPE,
+            arguments.closed,
+        ),
+        Extent::WholeLine => Ok(()),
+    }
+}
+
+// The places behind these that the other arguments are, which are read from a file of this type.
+fn read_more(
+    scopes: &Scopes<'_>,
+    file: PasType,
+    arguments: &Arguments,
+    places: Items<Place>,
+) -> Result<Items<Place>, Stop>
+    ensures { IsClear (scopes_view scopes.now) → (n : ℕ) (place : SpecPlace) → type_of_place place ≡ type_view file
+        → is_some (component_of (scopes_view scopes.now).outer.types (type_view file)) ≡ true
+        → Gathers place_view (map place_view places) (items_behind (scopes_view scopes.now) scopes.now.spellings.now n
+        (spec.read_item (scopes_view scopes.now).outer.types (Some place)) arguments.now.items.more)
+        (at n k.RightParenthesis arguments.now.closed) result }
+{
+    let mut places = places;
+    for (index, more) in arguments.items.more.as_slice().iter().enumerate() {
+        let found = read_item(scopes, file, &more.item)?;
+        places.push(found.before(line_behind(arguments, index + 1))?)?;
+    }
+    Ok(places)
+}
+
 // What `read` or `readln` with arguments means.
 pub(crate) fn read_call(
     scopes: &Scopes<'_>,
@@ -345,7 +472,58 @@ pub(crate) fn read_call(
         (arguments_in scopes.now.spellings.now arguments.now).items)) (statement_view scopes.now.spellings.now)
         result }
 {
-    Err(Stop::OutOfMemory)
+    match named_file(scopes, &arguments.items.first)? {
+        Some(file) => read_named(scopes, extent, arguments, file),
+        None => read_standard(scopes, line, extent, arguments),
+    }
+}
+
+// The same on the file that the first argument names.
+fn read_named(
+    scopes: &Scopes<'_>,
+    extent: Extent,
+    arguments: &Arguments,
+    file: Judged<Place>,
+) -> Result<Statement, Stop>
+    ensures { IsClear (scopes_view scopes.now) → (n : ℕ) (word : Word)
+        → IsFileAlone (scopes_view scopes.now).outer.types
+        (expr_words (n + 1) 0 (expr_in scopes.now.spellings.now arguments.now.items.first.value))
+        (spec_value.value_of (scopes_view scopes.now)
+        (expr_in scopes.now.spellings.now arguments.now.items.first.value)) (Some file)
+        → Settles (word ∷ arguments_words n (arguments_in scopes.now.spellings.now arguments.now))
+        (spec.read_with (extent_view extent) (scopes_view scopes.now).outer.types (spec.input (scopes_view scopes.now))
+        (spec.actuals_of (scopes_view scopes.now) (arguments_in scopes.now.spellings.now arguments.now).items))
+        (statement_view scopes.now.spellings.now) result }
+{
+    let file = file_only(extent, &arguments.items.first, file)?;
+    let file = file.before(line_behind(arguments, 0))?;
+    let places = read_more(scopes, file.pas_type(), arguments, Items::new(scopes.alloc))?;
+    some_item(extent, arguments)?;
+    reads(scopes, extent, file, places)
+}
+
+// The same on the file that is meant where none is named.
+fn read_standard(
+    scopes: &Scopes<'_>,
+    line: u32,
+    extent: Extent,
+    arguments: &Arguments,
+) -> Result<Statement, Stop>
+    ensures { IsClear (scopes_view scopes.now) → (n : ℕ) (word : Word) → word.token.line ≡ line
+        → option_and_then (spec.whole_file (scopes_view scopes.now).outer.types)
+        (spec_value.value_of (scopes_view scopes.now)
+        (expr_in scopes.now.spellings.now arguments.now.items.first.value)).value ≡ None
+        → Settles (word ∷ arguments_words n (arguments_in scopes.now.spellings.now arguments.now))
+        (spec.read_with (extent_view extent) (scopes_view scopes.now).outer.types (spec.input (scopes_view scopes.now))
+        (spec.actuals_of (scopes_view scopes.now) (arguments_in scopes.now.spellings.now arguments.now).items))
+        (statement_view scopes.now.spellings.now) result }
+{
+    let file = standard_only(scopes, scopes.standard_file(b"input"), line)?;
+    let found = read_item(scopes, PasType::Text, &arguments.items.first)?;
+    let mut places = Items::new(scopes.alloc);
+    places.push(found.before(line_behind(arguments, 0))?)?;
+    let places = read_more(scopes, PasType::Text, arguments, places)?;
+    reads(scopes, extent, file, places)
 }
 
 // What `write` or `writeln` with arguments means.

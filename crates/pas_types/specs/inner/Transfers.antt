@@ -1,8 +1,12 @@
 -- What functions that check reading and writing answer.
-use Rattle.std.specs.Prelude.{◌≡◌, ℕ, List, [], ◌∷◌, Option, Some, None, option_and_then, Result, Ok, Err}
+use Rattle.std.specs.Prelude.{◌≡◌, ℕ, List, [], ◌∷◌, Option, Some, None, option_and_then, map, Result, Ok, Err}
 use Rattle.wb_base.specs.declared.faults.TheConstants.{WRONG_TYPE, FILE_RULE}
 use Rattle.pas_tokens.specs.Cutting.{Wrong, wrong}
 use Rattle.pas_syntax.specs.Tree.{Behind, Expr}
+use Rattle.pas_syntax.specs.declared.tree.Argument.{Argument as CodeArgument}
+use Rattle.pas_syntax.specs.declared.tree.Behind.{Behind as CodeBehind}
+use Rattle.pas_syntax.specs.Views.{behind_in}
+use Rattle.pas_syntax.specs.ProgramViews.{argument_in}
 use Rattle.pas_typed.specs.declared.typed.Place as code_place
 use Rattle.pas_typed.specs.TypedViews.{place_view}
 use Rattle.pas_typed.specs.Typed as typed
@@ -12,10 +16,14 @@ use Rattle.pas_types.specs.declared.stop.Stop.TheVariants as stop
 use Rattle.pas_types.specs.declared.stop.Wrong.{Wrong as CodeWrong}
 use Rattle.pas_types.specs.declared.transfers.Extent.{Extent as CodeExtent}
 use Rattle.pas_types.specs.declared.transfers.Extent.TheVariants as code
+use Rattle.pas_types.specs.declared.judged.Judged.{Judged as CodeJudged}
+use Rattle.pas_typed.specs.Types.{Table}
+use Rattle.pas_syntax.specs.Words.{Word}
+use Rattle.pas_types.specs.inner.Answers.{end_in, EndsAs}
 use Rattle.pas_types.specs.Marks.{Judged, judged, both, joined, checked}
-use Rattle.pas_types.specs.Scopes.{Procedure, read, readln, write, writeln}
+use Rattle.pas_types.specs.Scopes.{Scopes, Procedure, read, readln, write, writeln}
 use Rattle.pas_types.specs.Expressions.{Demand, place_in}
-use Rattle.pas_types.specs.Calls.{Extent, items_alone, whole_line, no_width}
+use Rattle.pas_types.specs.Calls.{Extent, items_alone, whole_line, no_width, whole_file, Actual, actual_of}
 use Rattle.pas_types.specs.inner.Stopping.{wrong_in, shown_in}
 
 abbrev pub extent_view : CodeExtent → Extent
@@ -61,3 +69,24 @@ width_refused (Some width) = Err (shown_in width.line (wrong WRONG_TYPE))
 -- the place that a value is which meets a demand
 abbrev pub place_by : Demand → Judged Value → Judged Place
 place_by demand part = let found = checked demand part in judged found.marks (option_and_then place_in found.value)
+
+-- the file that a value is, if it is known to be a variable by itself that is one
+abbrev pub IsFileAlone : Table → List Word → Judged Value → Option (CodeJudged code_place.Place) → Type 0
+IsFileAlone table words part None = option_and_then (whole_file table) part.value ≡ None
+IsFileAlone table words part (Some file) =
+    (option_and_then (whole_file table) part.value ≡ Some (place_view file.value))
+    × EndsAs words part (typed.read (place_view file.value)) (end_in file.end)
+
+abbrev pub NamesFile : Table → List Word → Judged Value → Result (Option (CodeJudged code_place.Place)) Stop → Type 0
+NamesFile table words part (Ok file) = IsFileAlone table words part file
+NamesFile table words part (Err why) = why ≡ stop.OutOfMemory
+
+-- what is refused by faults of a token in this line
+abbrev pub refused_by : ℕ → List Wrong → Result (Unit {0}) Stop
+refused_by line [] = Ok tt
+refused_by line (found ∷ more) = Err (shown_in line found)
+
+-- the code's arguments behind the first one
+abbrev pub behind_actuals : Scopes → List ℕ → List (CodeBehind CodeArgument) → List Actual
+behind_actuals scopes spellings more =
+    map (λ behind. actual_of scopes behind.item) (map (behind_in (argument_in spellings)) more)
