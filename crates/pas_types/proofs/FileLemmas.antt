@@ -31,10 +31,12 @@ use Rattle.pas_types.specs.Scopes.{Scopes, Entity, constant, type, variable, rou
 use Rattle.pas_types.specs.Scopes.{procedure, unclear, entity_of, standard_file}
 use Rattle.pas_types.specs.TypeForms as forms
 use Rattle.pas_types.specs.TypeForms.{ConstantValue}
-use Rattle.pas_types.specs.Expressions.{Demand, Given, as_value, as_call, value_of, place_of, elements_at, element_by, indexed_by}
+use Rattle.pas_types.specs.Expressions.{Demand, Given, as_value, as_call}
+use Rattle.pas_types.specs.Expressions.{value_of, place_of, elements_at, element_by, indexed_by}
 use Rattle.pas_types.specs.Expressions.{as_array, field_by, field_in, field_at, buffer_at, buffer_of, heading_of}
 use Rattle.pas_types.specs.Expressions.{function_alone, without_arguments, test_alone, function_call_of, call_with}
-use Rattle.pas_types.specs.Expressions.{any_of_base, first_value, file_in, file_at, is_file, given, passed_to, demands_of, test_demand}
+use Rattle.pas_types.specs.Expressions.{any_of_base, first_value, file_in, file_at}
+use Rattle.pas_types.specs.Expressions.{is_file, given, passed_to, demands_of, test_demand}
 use Rattle.pas_types.specs.Expressions.{function_demand, record_only, files_only, field_of, bare_argument, values_of}
 use Rattle.pas_types.specs.Expressions.{variable_value, factor_of, term_of, sum_of}
 use Rattle.pas_types.specs.Calls.{whole_file, items_alone, missing_items}

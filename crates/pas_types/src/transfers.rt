@@ -21,7 +21,8 @@ ghost use Rattle.pas_types.specs.ScopeViews.{scopes_view, IsClear};
 ghost use Rattle.pas_types.specs.inner.Answers.{end_in, EndsAs, Stands, Settles};
 ghost use Rattle.pas_types.specs.inner.Listed.{line_behind as spec_line_behind, items_behind, Gathers};
 ghost use Rattle.pas_types.specs.inner.Transfers.{reading, writing, extent_view, Makes, MeansFile, wrongs_in};
-ghost use Rattle.pas_types.specs.inner.Transfers.{place_by, width_refused, refused_by, behind_actuals, NamesFile, IsFileAlone};
+ghost use Rattle.pas_types.specs.inner.Transfers.{place_by, width_refused, refused_by, behind_actuals};
+ghost use Rattle.pas_types.specs.inner.Transfers.{NamesFile, IsFileAlone, component_of_item};
 
 use crate::expressions::{only, value_of};
 use crate::functions::place_alone;
@@ -457,6 +458,27 @@ fn read_more(
         places.push(found.before(line_behind(arguments, index + 1))?)?;
     }
     Ok(places)
+}
+
+// The values behind these that the other arguments are, which are written as components of a file of this type.
+fn components_more(
+    scopes: &Scopes<'_>,
+    file: PasType,
+    arguments: &Arguments,
+    values: Items<Value>,
+) -> Result<Items<Value>, Stop>
+    ensures { IsClear (scopes_view scopes.now) → (n : ℕ) (component : spec_type.PasType)
+        → component_of (scopes_view scopes.now).outer.types (type_view file) ≡ Some component
+        → Gathers value_view (map value_view values) (items_behind (scopes_view scopes.now) scopes.now.spellings.now n
+        (component_of_item (scopes_view scopes.now).outer.types (Some component)) arguments.now.items.more)
+        (at n k.RightParenthesis arguments.now.closed) result }
+{
+    let mut values = values;
+    for (index, more) in arguments.items.more.as_slice().iter().enumerate() {
+        let found = component_item(scopes, file, &more.item)?;
+        values.push(found.before(line_behind(arguments, index + 1))?)?;
+    }
+    Ok(values)
 }
 
 // What `read` or `readln` with arguments means.

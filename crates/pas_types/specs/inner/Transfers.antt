@@ -17,13 +17,14 @@ use Rattle.pas_types.specs.declared.stop.Wrong.{Wrong as CodeWrong}
 use Rattle.pas_types.specs.declared.transfers.Extent.{Extent as CodeExtent}
 use Rattle.pas_types.specs.declared.transfers.Extent.TheVariants as code
 use Rattle.pas_types.specs.declared.judged.Judged.{Judged as CodeJudged}
-use Rattle.pas_typed.specs.Types.{Table}
+use Rattle.pas_typed.specs.Types.{Table, PasType}
 use Rattle.pas_syntax.specs.Words.{Word}
 use Rattle.pas_types.specs.inner.Answers.{end_in, EndsAs}
 use Rattle.pas_types.specs.Marks.{Judged, judged, both, joined, checked}
 use Rattle.pas_types.specs.Scopes.{Scopes, Procedure, read, readln, write, writeln}
-use Rattle.pas_types.specs.Expressions.{Demand, place_in}
+use Rattle.pas_types.specs.Expressions.{Demand, place_in, met}
 use Rattle.pas_types.specs.Calls.{Extent, items_alone, whole_line, no_width, whole_file, Actual, actual_of}
+use Rattle.pas_types.specs.Calls.{component_demand, without_width}
 use Rattle.pas_types.specs.inner.Stopping.{wrong_in, shown_in}
 
 abbrev pub extent_view : CodeExtent → Extent
@@ -90,3 +91,7 @@ refused_by line (found ∷ more) = Err (shown_in line found)
 abbrev pub behind_actuals : Scopes → List ℕ → List (CodeBehind CodeArgument) → List Actual
 behind_actuals scopes spellings more =
     map (λ behind. actual_of scopes behind.item) (map (behind_in (argument_in spellings)) more)
+
+-- what is written as a component, if that is known
+abbrev pub component_of_item : Table → Option PasType → Actual → Judged Value
+component_of_item table component actual = met (component_demand table component) (without_width actual)
