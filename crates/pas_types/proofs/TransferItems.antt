@@ -1,10 +1,13 @@
 -- What is read or written, argument by argument: each shows as many lists of faults as it has words.
-use Rattle.std.proofs.Common.{◌∙◌, ℕ, List, Option}
+use Rattle.std.proofs.Common.{Some, None, ◌∙◌, ℕ, List, Option}
 use Rattle.pas_syntax.specs.declared.tree.Argument.{Argument as CodeArgument}
 use Rattle.pas_syntax.specs.ProgramViews.{argument_in}
 use Rattle.pas_syntax.specs.Words.{Word}
-use Rattle.pas_typed.specs.Types.{PasType}
-use Rattle.pas_typed.specs.Typed.{Place}
+use Rattle.pas_typed.specs.Types.{PasType, component_of}
+use Rattle.pas_typed.specs.TypeOf.{type_of_place}
+use Rattle.pas_types.specs.inner.Transfers.{component_of_item}
+use Rattle.pas_typed.specs.Typed.{Value, Place}
+use Rattle.pas_types.specs.Marks.{Judged}
 use Rattle.pas_types.specs.Scopes.{Scopes}
 use Rattle.pas_types.specs.Expressions.{met}
 use Rattle.pas_types.specs.Calls.{Actual, actual_of, read_item, read_demand, without_width, component_demand}
@@ -35,3 +38,13 @@ module _ (scopes : Scopes) (spellings : List ℕ) (n : ℕ) where
         same = met_count (component_demand scopes.outer.types component) (without_width actual)
             ∙ (argument_many scopes n (argument_in spellings argument)).same;
       }
+
+  abbrev pub bytes_item : Option Place → Actual → Judged Value
+  bytes_item None = component_of_item scopes.outer.types None
+  bytes_item (Some file) = component_of_item scopes.outer.types (component_of scopes.outer.types (type_of_place file))
+
+  pub bytes_many : (file : Option Place) (before : Word) (argument : CodeArgument)
+      → AsMany (item_at scopes spellings n (bytes_item file) before argument).words
+      (item_at scopes spellings n (bytes_item file) before argument).part.marks
+  bytes_many None = component_many None
+  bytes_many (Some file) = component_many (component_of scopes.outer.types (type_of_place file))

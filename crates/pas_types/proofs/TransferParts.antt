@@ -27,6 +27,10 @@ use Rattle.pas_types.specs.Scopes.{Scopes, Entity, constant, type, variable, rou
 use Rattle.pas_types.specs.Scopes.{procedure, unclear, entity_of, global_text, standard_file, is_global, read, readln}
 use Rattle.pas_types.specs.Expressions.{Demand, Given, Bare, met}
 use Rattle.pas_types.specs.Calls.{Actual, actual_of, without_width, Extent, items_alone, whole_line, demand_on_file}
+use Rattle.pas_types.specs.Calls.{is_text, write_items, write_bytes, write_text}
+use Rattle.pas_typed.specs.TypeOf.{type_of_place}
+use Rattle.pas_typed.specs.Types.{component_of}
+use Rattle.pas_types.proofs.TransferItems.{bytes_item}
 use Rattle.pas_types.specs.Calls.{procedure_of, read_with, read_item, reads_by, transfer_by, whole_file, input}
 use Rattle.pas_types.specs.Calls.{Transfer, on_named, on_standard, missing_items, transferred, values_if}
 use Rattle.pas_types.specs.inner.Stopping.{shown_in}
@@ -459,3 +463,36 @@ pub reading_seen : (scopes : Scopes) (extent : CodeExtent) (actuals : List Actua
     ≡ read_with (extent_view extent) scopes.outer.types (input scopes) actuals
 reading_seen scopes code.ItemsAlone actuals = refl
 reading_seen scopes code.WholeLine actuals = refl
+
+-- components that are written, by the file
+module _ (scopes : Scopes) (spellings : List ℕ) (n : ℕ) where
+  bytes_seen : (transfer : Transfer) (found : Option Place) → transfer.file ≡ found
+      → ((file : Place) → found ≡ Some file → is_text file ≡ false)
+      → write_items scopes.outer.types transfer found
+      ≡ carried items_alone (bytes_item scopes spellings n) typed.writes_bytes transfer
+  bytes_seen transfer None is h =
+      ap (λ (file : Option Place). let items = map (bytes_item scopes spellings n file) transfer.items in
+      judged (transferred items_alone transfer items)
+      (both typed.writes_bytes transfer.file (values_if (missing_items items_alone transfer.items) items))) (sym is)
+  bytes_seen transfer (Some file) is h =
+      ap (λ (on_text : Bool). if on_text then write_text items_alone scopes.outer.types transfer typed.writes
+      else write_bytes scopes.outer.types transfer (component_of scopes.outer.types (type_of_place file)))
+      (h file refl)
+      ∙ ap (λ (file : Option Place). let items = map (bytes_item scopes spellings n file) transfer.items in
+      judged (transferred items_alone transfer items)
+      (both typed.writes_bytes transfer.file (values_if (missing_items items_alone transfer.items) items))) (sym is)
+
+  same_file : (value : Option Value) (file found : Place) → known (λ value. file) value ≡ Some found → file ≡ found
+  same_file None file found h = cc
+  same_file (Some value) file found h = cc
+
+  pub bytes_named : (file : Place) (actual : Actual) (actuals : List Actual) → is_text file ≡ false
+      → write_items scopes.outer.types (on_named (demand_on_file items_alone) file (actual ∷ actuals))
+      (on_named (demand_on_file items_alone) file (actual ∷ actuals)).file
+      ≡ carried items_alone (bytes_item scopes spellings n) typed.writes_bytes
+      (on_named (demand_on_file items_alone) file (actual ∷ actuals))
+  bytes_named file actual actuals h =
+      bytes_seen (on_named (demand_on_file items_alone) file (actual ∷ actuals))
+      (on_named (demand_on_file items_alone) file (actual ∷ actuals)).file refl
+      (λ found is. subst (λ (place : Place). is_text place ≡ false)
+      (same_file (met (demand_on_file items_alone) (without_width actual)).value file found is) h)

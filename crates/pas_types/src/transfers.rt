@@ -7,7 +7,7 @@ ghost use Rattle.pas_tokens.specs.declared.kinds.Kind.TheVariants as k;
 ghost use Rattle.pas_syntax.specs.Words.{Word, at, expr_words, argument_words, arguments_words};
 ghost use Rattle.pas_typed.specs.Types.{component_of};
 ghost use Rattle.pas_typed.specs.Types as spec_type;
-ghost use Rattle.pas_typed.specs.Typed.{Value as SpecValue, Place as SpecPlace, read};
+ghost use Rattle.pas_typed.specs.Typed.{Value as SpecValue, Place as SpecPlace, read, writes_bytes};
 ghost use Rattle.pas_typed.specs.TypeOf.{type_of, type_of_place};
 ghost use Rattle.pas_typed.specs.TypeViews.{type_view};
 ghost use Rattle.pas_typed.specs.TypedViews.{value_view, place_view, slot_view, item_view, statement_view};
@@ -479,6 +479,43 @@ fn components_more(
         values.push(found.before(line_behind(arguments, index + 1))?)?;
     }
     Ok(values)
+}
+
+// What `write` means on the file that the first argument names, which is no text.
+fn write_components(
+    scopes: &Scopes<'_>,
+    arguments: &Arguments,
+    file: Judged<Place>,
+) -> Result<Statement, Stop>
+    ensures { IsClear (scopes_view scopes.now) → (n : ℕ) (word : Word)
+        → IsFileAlone (scopes_view scopes.now).outer.types
+        (expr_words (n + 1) 0 (expr_in scopes.now.spellings.now arguments.now.items.first.value))
+        (spec_value.value_of (scopes_view scopes.now)
+        (expr_in scopes.now.spellings.now arguments.now.items.first.value)) (Some file)
+        → spec.is_text (place_view file.value) ≡ false
+        → Settles (word ∷ arguments_words n (arguments_in scopes.now.spellings.now arguments.now))
+        (spec.write_with spec.items_alone (scopes_view scopes.now).outer.types (spec.output (scopes_view scopes.now))
+        (spec.actuals_of (scopes_view scopes.now) (arguments_in scopes.now.spellings.now arguments.now).items))
+        (statement_view scopes.now.spellings.now) result }
+{
+    let file = file_only(Extent::ItemsAlone, &arguments.items.first, file)?;
+    let file = file.before(line_behind(arguments, 0))?;
+    let values = components_more(scopes, file.pas_type(), arguments, Items::new(scopes.alloc))?;
+    some_item(Extent::ItemsAlone, arguments)?;
+    writes_components(scopes, file, values)
+}
+
+// Writing components on a file.
+fn writes_components(
+    scopes: &Scopes<'_>,
+    file: Place,
+    values: Items<Value>,
+) -> Result<Statement, Stop>
+    ensures { Makes (statement_view scopes.now.spellings.now)
+        (writes_bytes (place_view file) (map value_view values)) result }
+{
+    let file = Boxed::new(scopes.alloc, file)?;
+    Ok(Statement::WritesBytes(file, values))
 }
 
 // What `read` or `readln` with arguments means.
