@@ -20,4 +20,5 @@ invariant-loop-index l =
     → (name : Word) (first : Item Value)
     → IsQuiet (name ∷ item_words (first ∷ [])) (items_marks (first ∷ [])) false
     → Gathered value_view (map value_view l.initial.values) name first
-    (items_behind scopes l.scopes.spellings.now n (component_of_item table (Some component)) (take l.index l.more-items)) l.values
+    (items_behind scopes l.scopes.spellings.now n (component_of_item table (Some component)) (take l.index
+    l.more-items)) l.values
