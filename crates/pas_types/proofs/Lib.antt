@@ -60,6 +60,11 @@ pub mod UnknownLemmas
 pub mod GrowthLemmas
 pub mod DeclaredLemmas
 pub mod ConstantRowLemmas
+pub mod CountedLemmas
+pub mod GlobalLemmas
+pub mod LocalLemmas
+pub mod GlobalRowLemmas
+pub mod AddedLemmas
 pub mod RowLemmas
 pub mod TypeRowLemmas
 pub mod TypeNoteLemmas

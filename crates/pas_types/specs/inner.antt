@@ -16,3 +16,4 @@ pub mod FormAnswers
 pub mod Declared
 pub mod Transfers
 pub mod Listed
+pub mod Locals
