@@ -7,3 +7,9 @@ pub mod SceneLemmas
 pub mod PartLemmas
 pub mod FileLemmas
 pub mod SpotLemmas
+pub mod StoringLemmas
+pub mod OperandLemmas
+pub mod ValueLemmas
+pub mod TestLemmas
+pub mod PlaceLemmas
+pub mod SelectorLemmas

@@ -3,3 +3,4 @@ pub mod FlatStore
 pub mod MachineState
 pub mod Doings
 pub mod Scenes
+pub mod Evaluating

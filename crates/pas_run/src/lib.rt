@@ -10,7 +10,9 @@ mod lines;
 mod machine;
 mod places;
 mod refusals;
+mod selectors;
 mod spots;
+mod values;
 
 pub use files::{Ahead, FileState, RunFile, Usage};
 pub use refusals::Refused;

@@ -1,0 +1,85 @@
+use Rattle.std.proofs.Common.{ℕ, ◌+◌, ◌*◌, ◌≡◌, false, List, Option, Ok, map, take}
+use Rattle.pas_syntax.specs.Views.{in_turn}
+use Rattle.pas_typed.specs.Types.{PasType}
+use Rattle.pas_typed.specs.Typed as typed
+use Rattle.pas_typed.specs.Typed.{Variable, Place}
+use Rattle.pas_typed.specs.TypeOf.{type_of_place, is_buffer}
+use Rattle.pas_typed.specs.TypeViews.{type_view}
+use Rattle.pas_typed.specs.TypedViews.{slot_view, part_view, place_view, program_view}
+use Rattle.pas_typed.specs.Lawful.{IsLawfulPlace}
+use Rattle.pas_meaning.specs.Standing.{Kinds}
+use Rattle.pas_run.specs.inner.MachineState.{failures_of}
+use Rattle.pas_run.specs.inner.Doings.{Does}
+use Rattle.pas_run.specs.inner.Scenes.{IsScene}
+use Rattle.pas_run.specs.inner.Evaluating.{IsBehind, place_at}
+use Rattle.pas_run.proofs.machine.Machine.+running.Given as goal
+
+-- each expression takes a level
+abbrev left : ℕ → ℕ
+left levels = 8 * levels
+
+abbrev pub decreases-number : goal.decreases-number
+decreases-number g l = left l.levels + 0
+
+abbrev pub decreases-truth : goal.decreases-truth
+decreases-truth g l = left l.levels + 1
+
+abbrev pub decreases-boolean : goal.decreases-boolean
+decreases-boolean g l = left l.levels + 1
+
+abbrev pub decreases-applied : goal.decreases-applied
+decreases-applied g l = left l.levels + 1
+
+abbrev pub decreases-signed_value : goal.decreases-signed_value
+decreases-signed_value g l = left l.levels + 1
+
+abbrev pub decreases-negated : goal.decreases-negated
+decreases-negated g l = left l.levels + 2
+
+abbrev pub decreases-product : goal.decreases-product
+decreases-product g l = left l.levels + 3
+
+abbrev pub decreases-multiplication : goal.decreases-multiplication
+decreases-multiplication g l = left l.levels + 1
+
+abbrev pub decreases-conjunction : goal.decreases-conjunction
+decreases-conjunction g l = left l.levels + 2
+
+abbrev pub decreases-addition : goal.decreases-addition
+decreases-addition g l = left l.levels + 3
+
+abbrev pub decreases-sum : goal.decreases-sum
+decreases-sum g l = left l.levels + 1
+
+abbrev pub decreases-disjunction : goal.decreases-disjunction
+decreases-disjunction g l = left l.levels + 2
+
+abbrev pub decreases-comparison : goal.decreases-comparison
+decreases-comparison g l = left l.levels + 1
+
+abbrev pub decreases-read : goal.decreases-read
+decreases-read g l = left l.levels + 5
+
+abbrev pub decreases-spot_at : goal.decreases-spot_at
+decreases-spot_at g l = left l.levels + 4
+
+abbrev pub decreases-part_at : goal.decreases-part_at
+decreases-part_at g l = left l.levels + 3
+
+abbrev pub decreases-behind_part : goal.decreases-behind_part
+decreases-behind_part g l = left l.levels + 2
+
+abbrev pub decreases-behind_elements : goal.decreases-behind_elements
+decreases-behind_elements g l = left l.levels + 1
+
+abbrev pub invariant-part_at-loop-part : goal.invariant-part_at-loop-part
+invariant-part_at-loop-part g l =
+    let program = program_view l.scene.program.now in
+    let so_far : Place = in_turn (typed.slot (slot_view l.place.slot)) (map part_view (take l.part-index
+    l.part-items)) in
+    (type_of_place so_far ≡ type_view l.whole)
+    × (failures_of l.self.files ≡ failures_of l.fn.self.files)
+    × (is_buffer (place_view l.place) ≡ false → (variables : List Variable) (result' : Option PasType) (kinds : Kinds)
+    → IsScene l.scene variables result' kinds → IsLawfulPlace program variables (place_view l.place) → (most : ℕ)
+    → Does most kinds kinds (IsBehind program variables l.place.slot (type_of_place so_far))
+    (place_at program most so_far) l.fn.self l.self (Ok l.behind))
