@@ -74,3 +74,9 @@ pub mod GatherLemmas
 pub mod TransferItems
 pub mod FileLemmas
 pub mod TransferParts
+pub mod CleanLemmas
+pub mod HeldWords
+pub mod LawfulScopes
+pub mod LawfulValues
+pub mod LawfulTransfers
+pub mod LawfulStatements

@@ -15,3 +15,4 @@ pub mod ScopeViews
 pub mod NamesInside
 pub mod NameSetInside
 pub mod inner
+pub mod Probe

@@ -19,6 +19,7 @@ mod name_sets;
 mod names;
 mod new_names;
 mod noting;
+mod probe;
 mod results;
 mod scopes;
 mod simple_types;
