@@ -78,6 +78,10 @@ Shows before token refusal =
 abbrev pub Means : List ℕ → Program → Type 0
 Means text program = (tokens : List Token) × (tokens_of text ≡ Ok tokens) × Spells tokens program
 
+-- some text means this tree
+abbrev pub IsOfText : Program → Type 0
+IsOfText program = (text : List ℕ) × Means text program
+
 -- the first token of a text that shows a fault, and it
 pub record FirstFault (text : List ℕ) (fault : Fault) : Type 0 where
   pub before : List Token
