@@ -140,7 +140,7 @@ both_if P Q R make (Some one) None gives h k = tt
 both_if P Q R make (Some one) (Some other) gives h k = gives one other h k
 
 -- a part that must meet a demand
-checked_value : {A : Type 0} (P : A → Type 0) (demand : A → List Wrong) (marks : Marks) (value : Option A)
+pub checked_value : {A : Type 0} (P : A → Type 0) (demand : A → List Wrong) (marks : Marks) (value : Option A)
     → IfSome value P → IfSome (checked_by demand marks value).value (λ found. P found × (demand found ≡ []))
 checked_value P demand marks None h = tt
 checked_value P demand marks (Some value) h = by_faults (demand value) refl

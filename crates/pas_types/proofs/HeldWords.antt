@@ -1,5 +1,6 @@
--- Words that tokens of a text can be: a number is at most the greatest one, and a string is of bytes.
-use Rattle.std.proofs.Common.{ℕ, ◌≤◌, List, ◌∷◌, ◌++◌}
+-- Words that tokens of a text can be: a number is at most the greatest one, a string is of bytes, and none shows a part
+-- of Pascal that is left out.
+use Rattle.std.proofs.Common.{◌≡◌, ℕ, ◌≤◌, List, ◌∷◌, ◌++◌, None}
 use Rattle.std.specs.Prelude.{⊤}
 use Rattle.pas_tokens.specs.declared.kinds.Kind.{Kind}
 use Rattle.pas_tokens.specs.declared.kinds.Kind.TheVariants as k
@@ -24,14 +25,17 @@ IsHeldBy kind (spelling bytes) = IsString kind bytes
 abbrev pub IsHeld : Token → Type 0
 IsHeld token = IsHeldBy token.kind token.payload
 
+abbrev pub IsHeldWord : Word → Type 0
+IsHeldWord word = IsHeld word.token × (word.left_out ≡ None)
+
 abbrev pub AreHeld : List Word → Type 0
-AreHeld words = Each (λ word. IsHeld word.token) words
+AreHeld words = Each IsHeldWord words
 
 pub held_before : (words more : List Word) → AreHeld (words ++ more) → AreHeld words
-held_before words more h = each_before (λ word. IsHeld word.token) words more h
+held_before words more h = each_before IsHeldWord words more h
 
 pub held_behind : (words more : List Word) → AreHeld (words ++ more) → AreHeld more
-held_behind words more h = each_behind (λ word. IsHeld word.token) words more h
+held_behind words more h = each_behind IsHeldWord words more h
 
 -- the words behind a word that stands behind words
 pub held_next : (words : List Word) (word : Word) (more : List Word) → AreHeld (words ++ word ∷ more) → AreHeld more

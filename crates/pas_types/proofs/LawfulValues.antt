@@ -68,7 +68,7 @@ pub ordinal_only_ordinal : (table : Table) (value : Value) → ordinal_only tabl
 ordinal_only_ordinal table value is =
     with_base table (type_of value) (holds (is_some (base_of table (type_of value))) (wrong WRONG_TYPE) is)
 
-base_same : (base other : Base) → same_base base other ≡ true → base ≡ other
+pub base_same : (base other : Base) → same_base base other ≡ true → base ≡ other
 base_same types.integer types.integer is = refl
 base_same types.integer types.char is = absurd (cc)
 base_same types.integer types.boolean is = absurd (cc)
@@ -134,7 +134,7 @@ true_from : (is : Bool) → T is → is ≡ true
 true_from true t = refl
 true_from false t = absurd t
 
-within : (low number high : ℤ) → low ≤ℤ number → number ≤ℤ high → (int_le low number && int_le number high) ≡ true
+pub within : (low number high : ℤ) → low ≤ℤ number → number ≤ℤ high → (int_le low number && int_le number high) ≡ true
 within low number high above below = ap₂ ◌&&◌ (true_from _ above.le) (true_from _ below.le)
 
 within_bytes : (byte : ℕ) → byte ≤ 255 → (int_le (pos 0) (pos byte) && int_le (pos byte) (pos 255)) ≡ true
@@ -151,7 +151,7 @@ char_lawful [] h clean = tt
 char_lawful (byte ∷ []) h clean = within_bytes byte h.0
 char_lawful (byte ∷ (next ∷ bytes)) h clean = tt
 
-undoubled_bytes : (behind_quote : Bool) (bytes : List ℕ) → Each (λ byte. byte ≤ 255) bytes
+pub undoubled_bytes : (behind_quote : Bool) (bytes : List ℕ) → Each (λ byte. byte ≤ 255) bytes
     → Each (λ byte. byte ≤ 255) (forms.text_behind behind_quote bytes)
 undoubled_bytes behind_quote [] h = tt
 undoubled_bytes true (byte ∷ bytes) h = undoubled_bytes false bytes h.1
@@ -645,11 +645,11 @@ module _ (scopes : Scopes) (lawful : AreLawful scopes) where
 
     pub factor_lawful : (n a : ℕ) (f : Factor) → AreHeld (factor_words n a f)
         → Lawfully IsValue (factor_of scopes f)
-    factor_lawful n a (tree.literal numeral) held clean = within_greatest numeral.value held.0
+    factor_lawful n a (tree.literal numeral) held clean = within_greatest numeral.value held.0.0
     factor_lawful n a (tree.literal_text quoted) held clean =
         known_if IsLawfulConstant IsValue (λ (text : forms.ConstantValue). typed.constant text.base text.value)
         (forms.char_in (forms.undoubled quoted.text)).value (λ found is. is)
-        (char_lawful (forms.undoubled quoted.text) (undoubled_bytes false quoted.text held.0) clean)
+        (char_lawful (forms.undoubled quoted.text) (undoubled_bytes false quoted.text held.0.0) clean)
     factor_lawful n a (tree.parenthesized opened e closed) held clean =
         known_if IsValue IsValue typed.parenthesized (value_of scopes e).value (λ value is. is)
         (value_lawful (n + 1) a e (held_before (expr_words (n + 1) a e) _ held.1)

@@ -80,3 +80,6 @@ pub mod LawfulScopes
 pub mod LawfulValues
 pub mod LawfulTransfers
 pub mod LawfulStatements
+pub mod LawfulForms
+pub mod LawfulDeclarations
+pub mod KnownForms
