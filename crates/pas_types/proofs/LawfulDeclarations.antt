@@ -153,7 +153,7 @@ within_plain outer inner h own name =
     (found_in IsPlain inner.names name own) (program_plain outer h name)
 
 -- what is lawful stays so
-entity_stays : (program later : TypedProgram) → Grows program later → length program.types ≤ length later.types
+pub entity_stays : (program later : TypedProgram) → Grows program later → length program.types ≤ length later.types
     → (variables : List Variable) (entity : Entity) → IsLawfulEntity program variables entity
     → IsLawfulEntity later variables entity
 entity_stays program later grows longer variables (scope.constant base value) h = h
@@ -175,7 +175,7 @@ heading_stays table later stays heading h = record {
   result = IfSome_then heading.result h.result (λ type is. ordinal_stays table later stays type is);
 }
 
-stays_same : {A : Type 0} (found : List A) → Stays found found
+pub stays_same : {A : Type 0} (found : List A) → Stays found found
 stays_same found = record { each = λ number item there. there }
 
 -- with more rows; and with a name more
@@ -335,7 +335,7 @@ type_row_lawful outer found h held clean =
       };
     }
 
-slice_at : {A : Type 0} (before : List A) (found : A) (after : List A)
+pub slice_at : {A : Type 0} (before : List A) (found : A) (after : List A)
     → slice_get (before ++ found ∷ after) (length before) ≡ Some found
 slice_at [] found after = refl
 slice_at (first ∷ before) found after = slice_at before found after
@@ -362,7 +362,7 @@ all_declared : (type : PasType) (spellings : List (List ℕ))
 all_declared type [] = tt
 all_declared type (name ∷ spellings) = (refl, all_declared type spellings)
 
-slots_plain : (home : typed.Home) (number : ℕ) (variables : List Variable)
+pub slots_plain : (home : typed.Home) (number : ℕ) (variables : List Variable)
     → Each (λ named. IsPlain named.entity) (spec.named_slots home number variables)
 slots_plain home number [] = tt
 slots_plain home number (found ∷ variables) = (refl, slots_plain home (suc number) variables)

@@ -83,3 +83,4 @@ pub mod LawfulStatements
 pub mod LawfulForms
 pub mod LawfulDeclarations
 pub mod KnownForms
+pub mod LawfulLocals
