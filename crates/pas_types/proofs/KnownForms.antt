@@ -66,7 +66,7 @@ abbrev pub ArePlain : Scopes → Type 0
 ArePlain scopes = (name : List ℕ) → IfSome (entity_of scopes name) IsPlain
 
 -- a part of Pascal that is left out
-left_out_held : {A : Type 0} (n : ℕ) (form : LeftOutType) → AreHeld (left_out_type_words n form) → A
+pub left_out_held : {A : Type 0} (n : ℕ) (form : LeftOutType) → AreHeld (left_out_type_words n form) → A
 left_out_held n (tree.enumeration line) held = absurd (cc)
 left_out_held n (tree.set line) held = absurd (cc)
 left_out_held n (tree.pointer line) held = absurd (cc)

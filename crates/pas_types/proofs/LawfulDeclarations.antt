@@ -271,7 +271,7 @@ pub record LeavesLawful (outer : Outer) (stage : Stage) : Type 0 where
   pub lawful : IsLawfulOuter stage.outer
   pub grows : Grows (so_far outer) (so_far stage.outer)
 
-grows_same : (program : TypedProgram) → Grows program program
+pub grows_same : (program : TypedProgram) → Grows program program
 grows_same program = record {
   types = stays_same program.types;
   globals = stays_same program.globals;

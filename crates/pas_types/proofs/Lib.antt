@@ -84,3 +84,4 @@ pub mod LawfulForms
 pub mod LawfulDeclarations
 pub mod KnownForms
 pub mod LawfulLocals
+pub mod LawfulRoutines
