@@ -305,10 +305,13 @@ result_needed outer inner function None of_outer h held clean missing = some_fau
 result_needed outer inner function (Some result) of_outer h held clean missing =
     result_known outer inner result of_outer h held clean
 
-first_lawful : (outer : Outer) (head : HeadingParts) → IsLawfulOuter outer
+pub first_made : (outer : Outer) (head : HeadingParts) → IsLawfulOuter outer
     → AreHeld (words_if parameters_words head.parameters) → AreHeld (words_if result_words head.result)
-    → IsClean (spec.first_heading outer head).marks → Heads outer (spec.first_heading outer head)
-first_lawful outer head of_outer parameters_held result_held clean =
+    → IsClean (spec.first_heading outer head).marks
+    → (let formals = spec.formals_of outer (spec.new_inner (length outer.routines) []) head.parameters in
+    MakesHeading outer (spec.heading_by head.name.name head.sort formals.is_clear formals.inner.variables
+    (spec.result_part outer formals.inner head.result).value))
+first_made outer head of_outer parameters_held result_held clean =
     let number : ℕ = length outer.routines in
     let formals : Formal = spec.formals_of outer (spec.new_inner number []) head.parameters in
     let result : Judged Made = spec.result_part outer formals.inner head.result in
@@ -316,13 +319,19 @@ first_lawful outer head of_outer parameters_held result_held clean =
     ++ unless (nat_lt number ROUTINE_LIMIT) (wrong TOO_LARGE)) ∷ formals.marks ∷ result.marks
     ∷ shows (spec.missing_result head.sort head.result) ∷ [] in
     let parts : Each IsClean marks = joined_clean marks clean in
-    let is : LeavesFormal outer formals = formals_lawful outer number [] head.parameters of_outer parameters_held
-    parts.1.1.0 in
-    routine_added outer (joined marks) head.name.name _ of_outer
-    (heading_made outer head.name.name head.sort formals.is_clear formals.inner.variables result.value is.clear
+    let is : LeavesFormal outer formals =
+    formals_lawful outer number [] head.parameters of_outer parameters_held parts.1.1.0 in
+    heading_made outer head.name.name head.sort formals.is_clear formals.inner.variables result.value is.clear
     (result_needed outer formals.inner head.sort head.result of_outer is.inside result_held parts.1.1.1.0
     parts.1.1.1.1.0)
-    is.parameters (result_lawful outer formals.inner head.result of_outer is.inside))
+    is.parameters (result_lawful outer formals.inner head.result of_outer is.inside)
+
+first_lawful : (outer : Outer) (head : HeadingParts) → IsLawfulOuter outer
+    → AreHeld (words_if parameters_words head.parameters) → AreHeld (words_if result_words head.result)
+    → IsClean (spec.first_heading outer head).marks → Heads outer (spec.first_heading outer head)
+first_lawful outer head of_outer parameters_held result_held clean =
+    routine_added outer (spec.first_heading outer head).marks head.name.name _ of_outer
+    (first_made outer head of_outer parameters_held result_held clean)
 
 -- a routine whose body is still to come
 abbrev IsThere : Outer → ℕ → Type 0
@@ -538,7 +547,7 @@ by_body outer found sort (tree.block labels rows body) heads held clean =
     (held_behind (words_if (rows_words k.Var variable_row_words) rows) (compound_words body) behind).1)
     clean
 
-heading_parts : (head : tree.Heading) → AreHeld (heading_words head)
+pub heading_parts : (head : tree.Heading) → AreHeld (heading_words head)
     → AreHeld (words_if parameters_words (spec.head_of head).parameters)
     × AreHeld (words_if result_words (spec.head_of head).result)
 heading_parts (tree.procedure line name parameters) held = (held.1.1, tt)
@@ -547,7 +556,7 @@ heading_parts (tree.function line name parameters result) held = (
   held_behind (words_if parameters_words parameters) _ held.1.1,
 )
 
-routine_lawful : (outer : Outer) (found : Routine) → IsLawfulOuter outer → AreHeld (routine_words found)
+pub routine_lawful : (outer : Outer) (found : Routine) → IsLawfulOuter outer → AreHeld (routine_words found)
     → IsClean (spec.routine_of outer found).marks → LeavesRoutine outer (spec.routine_of outer found)
 routine_lawful outer found of_outer held clean =
     let head : HeadingParts = spec.head_of found.heading in

@@ -85,3 +85,4 @@ pub mod LawfulDeclarations
 pub mod KnownForms
 pub mod LawfulLocals
 pub mod LawfulRoutines
+pub mod BodiedRoutines
