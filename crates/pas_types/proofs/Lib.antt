@@ -86,3 +86,4 @@ pub mod KnownForms
 pub mod LawfulLocals
 pub mod LawfulRoutines
 pub mod BodiedRoutines
+pub mod LinkedGlobals
