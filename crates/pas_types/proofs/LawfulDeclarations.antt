@@ -341,7 +341,7 @@ slice_at [] found after = refl
 slice_at (first ∷ before) found after = slice_at before found after
 
 -- variables of the program
-slots_lawful : (program : TypedProgram) (before variables after : List Variable)
+pub slots_lawful : (program : TypedProgram) (before variables after : List Variable)
     → program.globals ≡ before ++ (variables ++ after)
     → Each (IsNamed program) (spec.named_slots typed.global (length before) variables)
 slots_lawful program before [] after is = tt

@@ -87,3 +87,5 @@ pub mod LawfulLocals
 pub mod LawfulRoutines
 pub mod BodiedRoutines
 pub mod LinkedGlobals
+pub mod LawfulFiles
+pub mod LawfulPrograms
