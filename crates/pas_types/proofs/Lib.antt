@@ -74,3 +74,4 @@ pub mod GatherLemmas
 pub mod TransferItems
 pub mod FileLemmas
 pub mod TransferParts
+pub mod WriteParts
