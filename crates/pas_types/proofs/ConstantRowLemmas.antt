@@ -31,7 +31,7 @@ use Rattle.pas_types.proofs.TypesAsMany.{constant_many}
 use Rattle.pas_types.proofs.SettleLemmas.{quiet_word, quiet_alone}
 use Rattle.pas_types.proofs.SubrangeLemmas.{constant_agrees}
 use Rattle.pas_types.proofs.DeclaredLemmas.{entity_push, pushed_alike, notes_behind, notes_quiet}
-use Rattle.pas_types.proofs.CountedLemmas.{counted_name, constant_there}
+use Rattle.pas_types.proofs.CountedLemmas.{counted_name, constant_there, constant_held}
 
 -- scopes that stand for a scope of the program
 module _ (outer : Outer) (old : CodeScopes) where
@@ -237,7 +237,7 @@ module _ (old new : CodeScopes) (row : ConstantRow) (first : Result (Unit {0}) S
           let value : Option ConstantValue = (value_in (program_scopes outer)).value in
           subst (IsCounted (constant_row outer row).outer) (sym (ap (λ (scopes : CodeScopes). scopes.cells) is))
           (counted_name outer old.cells (names row.name.name (constant_meant value))
-          (constant_there (length outer.types) value) h.is_counted);
+          (constant_there (length outer.types) value) (constant_held (length outer.types) value) h.is_counted);
     };
     notes = λ outer h. row_notes outer h.alone noted one two noted_is notes h.outer_is;
   }
