@@ -106,7 +106,7 @@ clear_by : (b : Bool) (last : Named) (outside : Option Entity) → last.entity �
 clear_by true last outside known clear is = known cc
 clear_by false last outside known clear is = clear is
 
-clear_behind : (inside : Option Entity) (last : Named) (name : List ℕ) (outside : Option Entity)
+pub clear_behind : (inside : Option Entity) (last : Named) (name : List ℕ) (outside : Option Entity)
     → last.entity ≢ unclear → or_else inside outside ≢ Some unclear
     → or_else (or_else inside (entity_in (last ∷ []) name)) outside ≢ Some unclear
 clear_behind None last name outside known clear = clear_by (bytes_eq last.name name) last outside known clear

@@ -19,13 +19,13 @@ use Rattle.pas_typed.proofs.LongerTables.{IsAmong-more, IsAmong-made, cells_of-a
 use Rattle.pas_types.specs.Marks.{Marks, quiet, no_token, Judged, known, both, checked, checked_by, kept_by, refuses}
 use Rattle.pas_types.specs.Scopes.{Entity, constant, type, variable, routine, function, file_test, file_step}
 use Rattle.pas_types.specs.Scopes.{procedure, unclear, Named, Scopes, entity_in, entity_of, required, or_else}
-use Rattle.pas_types.specs.Scopes.{spellings_of, names, Outer}
+use Rattle.pas_types.specs.Scopes.{spellings_of, names, Outer, Inner}
 use Rattle.pas_types.specs.TypeForms.{ConstantValue, as_type, simple_of, constant_of}
 use Rattle.pas_types.specs.TypeForms.{range_between, fits_below, Indexes, Group, index_only, one_more, with_index}
 use Rattle.pas_types.specs.TypeForms.{no_indexes, table_of_indexes, more_indexes, indexes_of, arrays, with_fields}
 use Rattle.pas_types.specs.TypeForms.{no_fields, table_of_fields, form_of, groups_of}
 use Rattle.pas_types.specs.Declarations.{cells_of_variable, cells_together, program_scopes, with_name, types_behind}
-use Rattle.pas_types.specs.Declarations.{variables_of}
+use Rattle.pas_types.specs.Declarations.{variables_of, routine_scopes}
 use Rattle.pas_types.specs.inner.Declared.{IsThere, AreThere, AreTyped, IsHeld, AreHeld, IsFiled, AreFiled}
 use Rattle.pas_types.specs.inner.Declared.{IsCounted, constant_meant}
 use Rattle.pas_typed.specs.TypeViews.{counted}
@@ -405,6 +405,16 @@ named_outer outer h = record {
   each = λ name. there_or (length outer.types) (entity_in outer.names name) (entity_in required name)
       (there_in (length outer.types) outer.names name h)
       (there_in (length outer.types) required name (required_there (length outer.types)));
+}
+
+-- scopes of a routine
+pub named_routine : (rows : ℕ) (outer : Outer) (inner : Inner) → AreThere rows outer.names → AreThere rows inner.names
+    → AreNamed rows (routine_scopes outer inner)
+named_routine rows outer inner h k = record {
+  each = λ name. there_or rows (entity_in inner.names name)
+      (or_else (entity_in outer.names name) (entity_in required name)) (there_in rows inner.names name k)
+      (there_or rows (entity_in outer.names name) (entity_in required name) (there_in rows outer.names name h)
+      (there_in rows required name (required_there rows)));
 }
 
 pub together_longer : (table later : Table) (variables : List Variable) → Longer table later

@@ -130,7 +130,7 @@ each_same outer (first ∷ more) h =
     ∙ (each_same next more (subst (λ (found : List (List ℕ)). AreNew found (names_of more)) behind h.1)
     ∙ append_assoc outer.names (first ∷ []) more)
 
-abbrev AreKnown : List Named → Type 0
+abbrev pub AreKnown : List Named → Type 0
 AreKnown [] = ⊤
 AreKnown (named ∷ found) = (named.entity ≢ unclear) × AreKnown found
 

@@ -10,6 +10,7 @@ mod expressions;
 mod flow;
 mod functions;
 mod globals;
+mod headings;
 mod judged;
 mod labels;
 mod limits;
