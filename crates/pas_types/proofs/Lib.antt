@@ -63,6 +63,14 @@ pub mod ConstantRowLemmas
 pub mod CountedLemmas
 pub mod GlobalLemmas
 pub mod LocalLemmas
+pub mod LocalRowLemmas
+pub mod WithinLemmas
+pub mod LocalRowsLemmas
+pub mod FormalLemmas
+pub mod FormalsLemmas
+pub mod HeadingLemmas
+pub mod RoutineLemmas
+pub mod FirstHeadingLemmas
 pub mod GlobalRowLemmas
 pub mod AddedLemmas
 pub mod RowLemmas

@@ -17,3 +17,4 @@ pub mod Declared
 pub mod Transfers
 pub mod Listed
 pub mod Locals
+pub mod RoutineAnswers
