@@ -157,7 +157,7 @@ fn cells_of_all(scene: Scene<'_>, fields: &[Field]) -> u64
 }
 
 // So many cells behind others, unless they are more than a machine has.
-fn behind_cells(behind: u32, cells: u64) -> Result<u32, Stop>
+pub(crate) fn behind_cells(behind: u32, cells: u64) -> Result<u32, Stop>
     ensures count { (exact : ℕ) → counted exact ≡ cells → IsCount (behind + exact) result }
     ensures quiet { is_port_failed result ≡ false }
 {
