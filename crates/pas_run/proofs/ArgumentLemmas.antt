@@ -1,7 +1,7 @@
 -- Arguments of calls over a machine, one after another.
-use Rattle.std.proofs.Common.{◌≡◌, ℕ, zero, suc, ◌+◌, ◌<◌, ◌≤◌, ℤ, List, [], ◌∷◌, ◌++◌, length, take, drop, get_or, map}
-use Rattle.std.proofs.Common.{arith, refl, sym, ap, ap₂, ◌∙◌, subst, Some, None, Result, Ok, Err, inl, inr, IsSome, drop-cons}
-use Rattle.std.proofs.lemmas.List.{take-append-drop, take_more, take_all}
+use Rattle.std.proofs.Common.{◌≡◌, ℕ, zero, suc, ◌+◌, ◌<◌, List, [], ◌∷◌, ◌++◌, length, take, drop, get_or}
+use Rattle.std.proofs.Common.{arith, refl, sym, ap, ap₂, ◌∙◌, subst, Some, Result, Ok, Err, inl, inr, drop-cons}
+use Rattle.std.proofs.lemmas.List.{take-append-drop, take_more}
 use Rattle.pas_typed.specs.declared.typed.Passed as code_passed
 use Rattle.pas_typed.specs.declared.typed.Slot.{Slot as CodeSlot}
 use Rattle.pas_typed.specs.declared.typed.Part.TheOpen.{Passed-F}
@@ -15,11 +15,9 @@ use Rattle.pas_typed.specs.TypedViews.{OfValues, part_step, passed_step, value_s
 use Rattle.pas_typed.specs.TypedViews.{passed_views}
 use Rattle.pas_typed.specs.Lawful.{IsOrdinal, Takes, IsLawfulNumber, ArePassed}
 use Rattle.pas_meaning.specs.declared.errors.TheConstants.{CALL_LIMIT}
-use Rattle.pas_meaning.specs.Answers.{fine}
 use Rattle.pas_meaning.specs.Outcome.{Run, Outcome, gives, ends, errs, Doing, pure, and_then, ◌>>=◌, answered}
-use Rattle.pas_meaning.specs.Store.{Datum, holds, Store, fits}
+use Rattle.pas_meaning.specs.Store.{Datum, Store, fits}
 use Rattle.pas_meaning.specs.Operands.{operand}
-use Rattle.pas_meaning.specs.Run as meaning
 use Rattle.pas_meaning.specs.Run.{Spot, Argument, copied, meant, within}
 use Rattle.pas_meaning.specs.Standing.{Kinds}
 use Rattle.pas_meaning.specs.Laws.{Goes}
@@ -32,7 +30,7 @@ use Rattle.pas_run.specs.declared.ends.Stop.{Stop}
 use Rattle.pas_run.specs.declared.spots.Spot.{Spot as CodeSpot}
 use Rattle.pas_run.specs.declared.spots.Spot.TheVariants as code_spot
 use Rattle.pas_run.specs.inner.MachineState.{MachineState}
-use Rattle.pas_run.specs.inner.Doings.{IsNumber, Done, Does}
+use Rattle.pas_run.specs.inner.Doings.{Done, Does}
 use Rattle.pas_run.specs.inner.Evaluating.{value_of, place_at, MeansSpot}
 use Rattle.pas_run.specs.inner.Copying.{IsWhole, AreCells}
 use Rattle.pas_run.specs.inner.Calling.{IsGiven, AreGiven, IsOneGiven, arguments_of}

@@ -1,9 +1,8 @@
 -- Calls over a machine: the step, the body, and how an activation closes.
-use Rattle.std.proofs.Common.{◌≡◌, ℕ, zero, suc, ◌+◌, ◌-◌, List, [], ◌∷◌, ◌++◌, length, map, take, Option, Some, None}
-use Rattle.std.proofs.Common.{slice_get, slice_index_or, option_map, arith, refl, sym, ap, ap₂, ◌∙◌, subst, Result, Ok, Err}
+use Rattle.std.proofs.Common.{◌≡◌, ℕ, zero, suc, ◌+◌, ◌-◌, List, [], ◌∷◌, length, map, take, Option, Some, None}
+use Rattle.std.proofs.Common.{slice_get, slice_index_or, arith, refl, sym, ap, ap₂, ◌∙◌, subst, Result, Ok, Err}
 use Rattle.std.proofs.Common.{IsSome, length-append, ℤ}
 use Rattle.std.proofs.lemmas.List.{length-map, get_or_push}
-use Rattle.std.proofs.lemmas.Option.{same_Some}
 use Rattle.wb_ports.specs.PortState.{PortState}
 use Rattle.pas_typed.specs.declared.typed.Call as code_call
 use Rattle.pas_typed.specs.declared.typed.Part.TheViews.{out-Call}
@@ -14,12 +13,11 @@ use Rattle.pas_typed.specs.Typed.{Variable, Value, Place, Passed, Heading, Body,
 use Rattle.pas_typed.specs.TypeViews.{type_view}
 use Rattle.pas_typed.specs.TypedViews.{part_step, passed_step, value_step, call_step, place_step, passed_views, call_view}
 use Rattle.pas_typed.specs.Shapes.{one_cell}
-use Rattle.pas_typed.specs.Lawful.{IsLawful, IsLawfulBody}
 use Rattle.pas_meaning.specs.declared.errors.TheConstants.{CALL_LIMIT}
 use Rattle.pas_meaning.specs.Answers.{fine}
 use Rattle.pas_meaning.specs.Outcome.{Run, Doing, pure, ◌>>=◌, ◌>>◌, answered, ask, change, take_step, begin_call}
 use Rattle.pas_meaning.specs.Outcome.{end_call}
-use Rattle.pas_meaning.specs.Store.{Datum, Reference, Store, cell_at, top_of, number_in, opened, closed}
+use Rattle.pas_meaning.specs.Store.{Datum, Reference, Store, top_of, number_in, opened, closed}
 use Rattle.pas_meaning.specs.Run as meaning
 use Rattle.pas_meaning.specs.Run.{Flow, Argument, cells_for, within}
 use Rattle.pas_meaning.specs.Standing.{kind_of, Kinds, kind_at, Aims, kinds_for, result_kinds}
@@ -34,7 +32,7 @@ use Rattle.pas_run.specs.declared.ends.Flow.{Flow as CodeFlow}
 use Rattle.pas_run.specs.declared.ends.Stop.{Stop}
 use Rattle.pas_run.specs.declared.layouts.Layout.{Layout}
 use Rattle.pas_run.specs.declared.layouts.Layouts.{Layouts}
-use Rattle.pas_run.specs.inner.FlatStore.{cells_before, number_cell, flat_row, flat_store, cell_in, address_of}
+use Rattle.pas_run.specs.inner.FlatStore.{cells_before, number_cell, flat_row, flat_store, cell_in}
 use Rattle.pas_run.specs.inner.MachineState.{MachineState, AreFiles, IsRun}
 use Rattle.pas_run.specs.inner.Scenes.{IsAt}
 use Rattle.pas_run.specs.inner.Doings.{Any, IsNumber, Does, Answers}
@@ -42,7 +40,7 @@ use Rattle.pas_run.specs.inner.Running.{IsFlow, statement_of}
 use Rattle.pas_run.specs.inner.Evaluating.{value_of}
 use Rattle.pas_run.specs.inner.Calling.{AreGiven, IsRoutine, kinds_inside, IsResult, arguments_of, call_of, body_run_of}
 use Rattle.pas_run.specs.inner.Calling.{procedure_of}
-use Rattle.pas_run.proofs.DoesLemmas.{does_stop, does_next, does_answered, does_behind_step, does_pure}
+use Rattle.pas_run.proofs.DoesLemmas.{does_stop, does_next, does_answered, does_behind_step}
 use Rattle.pas_run.proofs.FlatLemmas.{flat-closed, cell-fetched}
 use Rattle.pas_run.proofs.ArgumentLemmas.{goes_all}
 use Rattle.pas_run.proofs.SelectorLemmas.{does_stopped}

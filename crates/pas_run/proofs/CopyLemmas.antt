@@ -1,6 +1,6 @@
 -- Cells that are copied and stored as a whole.
 use Rattle.std.proofs.Common.{◌≡◌, ℕ, suc, ◌+◌, ◌<◌, ◌≤◌, List, [], ◌∷◌, ◌++◌, length, take, drop, get_or, drop-cons}
-use Rattle.std.proofs.Common.{slice_set, slice_index_or, append_assoc, length-append, get_or-set_same, arith, refl, sym}
+use Rattle.std.proofs.Common.{slice_set, append_assoc, length-append, get_or-set_same, arith, refl, sym}
 use Rattle.std.proofs.Common.{ap, ap₂, ◌∙◌, subst, Option, Some, None, Result, Ok, Err, inl, inr, IsSome, is_some, option_map, true, false}
 use Rattle.std.proofs.lemmas.List.{take-append-drop, take_more, length-take-le, set_at, set-set, set-get_or}
 use Rattle.wb_ports.specs.PortState.{PortState}
@@ -10,13 +10,13 @@ use Rattle.pas_typed.specs.Typed.{Variable, Slot, Value, Place, TypedProgram}
 use Rattle.pas_typed.specs.TypedViews.{slot_view}
 use Rattle.pas_typed.specs.TypeOf.{type_of_place, type_of}
 use Rattle.pas_typed.specs.Lawful.{Takes, IsLawfulSlot}
-use Rattle.pas_typed.specs.Shapes.{Shape, Leads, offset, size, shape_of}
+use Rattle.pas_typed.specs.Shapes.{size, shape_of}
 use Rattle.pas_typed.specs.declared.typed.Slot.{Slot as CodeSlot}
 use Rattle.pas_typed.proofs.ShapeLemmas.{size-shape_of}
 use Rattle.pas_meaning.specs.declared.errors.TheConstants.{CALL_LIMIT}
 use Rattle.pas_meaning.specs.Answers.{Answer, fine, then_answer}
-use Rattle.pas_meaning.specs.Outcome.{World, Run, Doing, ◌>>=◌, answered, ask, change, changed}
-use Rattle.pas_meaning.specs.Store.{Datum, Reference, Store, home_of, along, fetched, stored, fits, fits_by, defined_by}
+use Rattle.pas_meaning.specs.Outcome.{World, Run, Doing, ask, change, changed}
+use Rattle.pas_meaning.specs.Store.{Datum, Store, home_of, along, stored, fits, fits_by, defined_by}
 use Rattle.pas_meaning.specs.Run as meaning
 use Rattle.pas_meaning.specs.Run.{Spot, part, window, slot_of, path_of, within}
 use Rattle.pas_meaning.specs.Standing.{Kinds, Aims, IsOfType}

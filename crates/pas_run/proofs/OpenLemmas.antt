@@ -1,14 +1,13 @@
 -- An activation opens: its cells are those of arguments, of blank variables, and of a result.
 use Rattle.std.proofs.Common.{◌≡◌, ℕ, zero, suc, ◌+◌, ◌-◌, ◌<◌, List, [], ◌∷◌, ◌++◌, length, map, take, drop, get_or}
 use Rattle.std.proofs.Common.{replicate, Option, Some, None, append_assoc, length-append, arith, refl, sym, ap, ap₂, ◌∙◌}
-use Rattle.std.proofs.Common.{subst, ℤ, slice_get, slice_index_or, Result, Ok, Err, append-nil, ◌==◌, eqb-true}
+use Rattle.std.proofs.Common.{subst, ℤ, slice_get, Result, Ok, Err, append-nil, ◌==◌, eqb-true}
 use Rattle.std.specs.Prelude.{option_to_list}
 use Rattle.std.proofs.lemmas.List.{replicate-append-replicate, length-map, map-append, drop_at, get_or_append_left}
 use Rattle.std.proofs.lemmas.List.{get_or_push, take_all}
 use Rattle.std.proofs.lemmas.Option.{same_Some}
 use Rattle.wb_ports.specs.PortState.{PortState}
 use Rattle.pas_typed.specs.Types.{PasType, Table}
-use Rattle.pas_typed.specs.Typed as typed
 use Rattle.pas_typed.specs.Typed.{Variable, Heading, Body, TypedProgram}
 use Rattle.pas_typed.specs.Shapes.{one_cell, size, shape_of}
 use Rattle.pas_typed.specs.Lawful.{AreDeclared, IsLawful, IsLawfulBody, IsLawfulSlot}

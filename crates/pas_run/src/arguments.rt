@@ -53,12 +53,7 @@ impl<P: Port> Machine<P> {
 
     // An argument.
     #[cycle(running)]
-    fn argument(
-        &mut self,
-        scene: Scene<'_>,
-        passed: &Passed,
-        levels: u32,
-    ) -> Result<Argument, Stop>
+    fn argument(&mut self, scene: Scene<'_>, passed: &Passed, levels: u32) -> Result<Argument, Stop>
         ensures does { PassesOne scene.entry (passed_view passed.now) self.old self.new result }
         ensures cause { CountFailures (is_port_failed result) self.old.files self.new.files }
     {

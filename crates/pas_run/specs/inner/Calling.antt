@@ -20,7 +20,7 @@ use Rattle.pas_run.specs.declared.layouts.Layout.{Layout}
 use Rattle.pas_run.specs.declared.layouts.Scene.{Scene}
 use Rattle.pas_run.specs.inner.FlatStore.{number_cell}
 use Rattle.pas_run.specs.inner.MachineState.{MachineState}
-use Rattle.pas_run.specs.inner.Doings.{Any, Does}
+use Rattle.pas_run.specs.inner.Doings.{Does}
 use Rattle.pas_run.specs.inner.Scenes.{IsScene, IsLayout}
 use Rattle.pas_run.specs.inner.Evaluating.{IsBehind}
 use Rattle.pas_run.specs.inner.Copying.{AreCells}

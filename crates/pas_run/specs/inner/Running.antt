@@ -1,6 +1,6 @@
 -- What functions of a machine do of statements: what the meaning does, from each scene in which they are lawful. This
 -- project's own.
-use Rattle.std.specs.Prelude.{◌≡◌, ℕ, List, Option, Some, None, Result, ⊤}
+use Rattle.std.specs.Prelude.{◌≡◌, ℕ, List, Option, Some, None, Result}
 use Rattle.pas_typed.specs.Types.{PasType, range_of}
 use Rattle.pas_typed.specs.Typed as typed
 use Rattle.pas_typed.specs.Typed.{Variable, Value, Place, Passed, Statement, Statements, TypedProgram}

@@ -57,28 +57,19 @@ use Rattle.pas_typed.specs.Lawful.{IsOrdinal, ArePassed}
 use Rattle.pas_typed.proofs.ValueViews.{passed_view-Value, passed_view-Reference}
 use Rattle.pas_run.specs.declared.arguments.Argument.{Argument as CodeArgument}
 use Rattle.pas_run.specs.declared.spots.Spot.{Spot as CodeSpot}
-use Rattle.pas_run.specs.inner.Doings.{Any}
-use Rattle.pas_run.specs.inner.Copying.{IsWhole, IsFound, AreCells, held_at, assignment_of, Copies}
+use Rattle.pas_run.specs.inner.Copying.{IsWhole, IsFound, AreCells, held_at, Copies}
 use Rattle.pas_run.specs.inner.Calling.{AreGiven, IsOneGiven, arguments_of, PassesOne}
-use Rattle.pas_run.proofs.CopyLemmas.{copy_stop, copy_next, assign_no_value, assign_no_place, assign_next}
+use Rattle.pas_run.proofs.CopyLemmas.{copy_stop, copy_next}
 use Rattle.pas_run.proofs.CopyLemmas.{whole_source, some_view, none_view}
 use Rattle.pas_run.proofs.ArgumentLemmas.{none_given, more_given, one_stops, passed_at, passed_long, parts_at, more_at}
 use Rattle.pas_run.proofs.ArgumentLemmas.{value_stop, value_next, whole_stop, whole_next, place_stop, place_next}
 use Rattle.pas_run.proofs.ArgumentLemmas.{number_lawful}
-use Rattle.std.proofs.Common.{Option, Some, is_some, IsSome}
+use Rattle.std.proofs.Common.{is_some, IsSome}
 use Rattle.pas_typed.specs.declared.typed.Part.TheViews.{out-Call}
 use Rattle.pas_typed.specs.Typed.{Body}
-use Rattle.pas_typed.specs.TypedViews.{body_view}
-use Rattle.pas_meaning.specs.declared.errors.TheConstants.{CALL_LIMIT}
-use Rattle.pas_meaning.specs.Outcome.{◌>>◌, take_step, begin_call}
-use Rattle.pas_meaning.proofs.OnwardLemmas.{goes_begin}
-use Rattle.pas_run.specs.declared.cells.Cell.{Cell}
-use Rattle.pas_run.specs.inner.Calling.{kinds_inside, IsResult, call_of, body_run_of, procedure_of}
-use Rattle.pas_run.proofs.DoesLemmas.{does_stop, does_next}
-use Rattle.pas_run.proofs.OpenLemmas.{at_inside, routine_found}
-use Rattle.pas_run.proofs.CallLemmas.{call_is, does_after_step, does_close, body_not_opened, body_stopped, body_done}
-use Rattle.pas_run.proofs.CallLemmas.{goes_behind_call_step, goes_body_run, function_no_arguments, function_stopped}
-use Rattle.pas_run.proofs.CallLemmas.{function_answers, procedure_no_arguments, procedure_stopped, procedure_done}
+use Rattle.pas_run.proofs.CallLemmas.{call_is}
+use Rattle.pas_run.proofs.CallLemmas.{function_no_arguments, function_stopped}
+use Rattle.pas_run.proofs.CallLemmas.{function_answers}
 use Rattle.pas_run.proofs.machine.Machine.+running.Goals as goal
 
 -- forms of values

@@ -1,4 +1,4 @@
-use Rattle.std.proofs.Common.{◌≡◌, Vec, ◌++◌, List, take, map, subst, sym, ap, ap₂, ◌∙◌, refl, arith, length}
+use Rattle.std.proofs.Common.{◌++◌, List, map, subst, sym, ap, ◌∙◌, arith, length}
 use Rattle.std.proofs.lemmas.List.{take_all}
 use Rattle.pas_typed.specs.TypedViews.{program_view}
 use Rattle.pas_meaning.specs.Run.{Argument, cell_of}

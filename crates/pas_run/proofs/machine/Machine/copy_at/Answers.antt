@@ -1,4 +1,4 @@
-use Rattle.std.proofs.Common.{List, subst}
+use Rattle.std.proofs.Common.{subst}
 use Rattle.pas_typed.specs.TypeViews.{type_view}
 use Rattle.pas_typed.specs.TypedViews.{program_view}
 use Rattle.pas_run.specs.declared.spots.Spot.{Spot as CodeSpot}

@@ -1,4 +1,4 @@
-use Rattle.std.proofs.Common.{List, Result, sym, ◌∙◌}
+use Rattle.std.proofs.Common.{List, ◌∙◌}
 use Rattle.std.proofs.lemmas.Result.{err_from_is_err_and}
 use Rattle.pas_typed.specs.Types.{cells_of}
 use Rattle.pas_typed.specs.TypeViews.{type_view}

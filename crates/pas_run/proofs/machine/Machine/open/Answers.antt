@@ -1,12 +1,10 @@
-use Rattle.std.proofs.Common.{◌≡◌, ◌-◌, ◌++◌, ◌∷◌, [], List, length, map, replicate, take, Vec, Ok, Err, sym, ap, ◌∙◌}
+use Rattle.std.proofs.Common.{◌++◌, ◌∷◌, [], List, ap, ◌∙◌}
 use Rattle.std.proofs.lemmas.Result.{err_from_is_err_and}
 use Rattle.pas_typed.specs.TypedViews.{program_view, body_view}
 use Rattle.pas_meaning.specs.Outcome.{change}
 use Rattle.pas_meaning.specs.Run as meaning
 use Rattle.pas_meaning.specs.Store.{opened}
 use Rattle.pas_run.specs.declared.cells.Cell.{Cell}
-use Rattle.pas_run.specs.declared.cells.Cell.TheVariants.{Undefined}
-use Rattle.pas_run.specs.inner.FlatStore.{flat_row}
 use Rattle.pas_run.specs.inner.MachineState.{MachineState}
 use Rattle.pas_run.specs.inner.Doings.{Any}
 use Rattle.pas_run.specs.inner.Calling.{kinds_inside}

@@ -1,5 +1,4 @@
 use Rattle.std.proofs.Common.{◌++◌, List, subst, sym, ap, ◌∙◌}
-use Rattle.std.proofs.lemmas.Result.{err_from_is_err_and}
 use Rattle.pas_typed.specs.TypedViews.{program_view}
 use Rattle.pas_run.specs.declared.arguments.Argument.{Argument as CodeArgument}
 use Rattle.pas_run.specs.declared.cells.Cell.{Cell}

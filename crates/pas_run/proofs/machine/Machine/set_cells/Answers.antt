@@ -1,8 +1,7 @@
-use Rattle.std.proofs.Common.{◌≡◌, ◌+◌, List, take, get_or, refl, sym, ap, ◌∙◌, arith}
+use Rattle.std.proofs.Common.{List, refl, sym, ap, ◌∙◌, arith}
 use Rattle.std.proofs.lemmas.List.{take_all}
-use Rattle.pas_run.specs.declared.cells.Address.{Address}
 use Rattle.pas_run.specs.declared.cells.Cell.{Cell}
-use Rattle.pas_run.specs.inner.FlatStore.{Activations, with_cell, with_cells, behind_by}
+use Rattle.pas_run.specs.inner.FlatStore.{Activations, with_cells, behind_by}
 use Rattle.pas_run.specs.inner.MachineState.{MachineState}
 use Rattle.pas_run.proofs.CopyLemmas.{with_none, set_more}
 use Rattle.pas_run.proofs.machine.Machine.set_cells.Goals as goal
