@@ -31,7 +31,7 @@ use Rattle.pas_run.specs.declared.spots.Spot.{Spot as CodeSpot}
 use Rattle.pas_run.specs.declared.spots.Spot.TheVariants as code_spot
 use Rattle.pas_run.specs.inner.MachineState.{MachineState}
 use Rattle.pas_run.specs.inner.Doings.{Done, Does}
-use Rattle.pas_run.specs.inner.Evaluating.{value_of, place_at, MeansSpot}
+use Rattle.pas_run.specs.inner.Evaluating.{value_of, place_at, IsBehind}
 use Rattle.pas_run.specs.inner.Copying.{IsWhole, AreCells}
 use Rattle.pas_run.specs.inner.Calling.{IsGiven, AreGiven, IsOneGiven, arguments_of}
 use Rattle.pas_run.proofs.DoesLemmas.{does_stop, does_next, does_pure, does_answered}
@@ -352,36 +352,33 @@ module _ (program : TypedProgram) (variables : List Variable) (most : ℕ) (kind
         ))
 
   -- a place
-  module _ (place : Place) where
+  module _ (place : Place) (slot : CodeSlot) where
     abbrev then_none : Spot → Doing Store (List Argument)
     then_none spot = arguments_of program most typed.nothing >>= (λ others. pure (meant spot ∷ others))
 
     pub place_stop : (now : MachineState) (why : Stop)
-        → Does {T = CodeSpot} most kinds kinds (MeansSpot program variables (type_of_place place))
+        → Does {T = ℕ} most kinds kinds (IsBehind program variables slot (type_of_place place))
         (place_at program most place) before now (Err why)
         → alone (typed.reference place typed.nothing) now (Err why)
     place_stop now why does =
-        does_stop {T = CodeSpot} {U = CodeArgument} most kinds kinds kinds
-        (MeansSpot program variables (type_of_place place)) (IsOneGiven program variables parameter)
+        does_stop {T = ℕ} {U = CodeArgument} most kinds kinds kinds
+        (IsBehind program variables slot (type_of_place place)) (IsOneGiven program variables parameter)
         (place_at program most place) then_none before now why
         (λ spot. goes_bind (goes_all program most typed.nothing) (λ others. goes_pure (meant spot ∷ others))) does
 
-    pub place_next : (now : MachineState) (slot : CodeSlot) (behind : ℕ)
+    pub place_next : (now : MachineState) (behind : ℕ)
         → ArePassed program variables (typed.reference place typed.nothing) (parameter ∷ [])
-        → Does most kinds kinds (MeansSpot program variables (type_of_place place))
-        (place_at program most place) before now (Ok (code_spot.Part slot behind))
+        → Does most kinds kinds (IsBehind program variables slot (type_of_place place))
+        (place_at program most place) before now (Ok behind)
         → alone (typed.reference place typed.nothing) now (Ok (code.Named slot behind))
-    place_next now slot behind is does =
-        does_next most kinds kinds kinds (MeansSpot program variables (type_of_place place))
+    place_next now behind is does =
+        does_next most kinds kinds kinds (IsBehind program variables slot (type_of_place place))
         (IsOneGiven program variables parameter)
-        (place_at program most place) then_none before now now (code_spot.Part slot behind)
+        (place_at program most place) then_none before now now behind
         (Ok (code.Named slot behind)) (goes_place_at program most place) does
         (λ spot spot_is. does_pure most kinds (IsOneGiven program variables parameter) (code.Named slot behind)
         (meant spot ∷ []) now (
-          (
-            is.0,
-            subst (λ type. MeansSpot program variables type (code_spot.Part slot behind) spot) (sym is.1) spot_is,
-          ),
+          (is.0, subst (λ type. IsBehind program variables slot type behind spot) (sym is.1) spot_is),
           tt,
         ))
 

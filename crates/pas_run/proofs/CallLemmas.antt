@@ -11,7 +11,8 @@ use Rattle.pas_typed.specs.Types.{PasType}
 use Rattle.pas_typed.specs.Typed as typed
 use Rattle.pas_typed.specs.Typed.{Variable, Value, Place, Passed, Heading, Body, TypedProgram}
 use Rattle.pas_typed.specs.TypeViews.{type_view}
-use Rattle.pas_typed.specs.TypedViews.{part_step, passed_step, value_step, call_step, place_step, passed_views, call_view}
+use Rattle.pas_typed.specs.TypedViews.{part_step, passed_step, value_step, call_step, place_step, passed_views}
+use Rattle.pas_typed.specs.TypedViews.{call_view}
 use Rattle.pas_typed.specs.Shapes.{one_cell}
 use Rattle.pas_meaning.specs.declared.errors.TheConstants.{CALL_LIMIT}
 use Rattle.pas_meaning.specs.Answers.{fine}
@@ -101,7 +102,8 @@ module _ (program : TypedProgram) (layouts : Layouts) (locals layout : Layout) (
       } in
       let row : slice_index_or inside (top_of run.store) [] ≡ kinds_for program body =
       get_or_push kinds (kinds_for program body) [] (top_of run.store) (omega (arith, many, top)) in
-      let begins : layout.cells ≡ cells_before (slice_index_or inside (top_of run.store) []) (length body.variables) + 0 =
+      let begins : layout.cells
+      ≡ cells_before (slice_index_or inside (top_of run.store) []) (length body.variables) + 0 =
       omega (
         arith,
         is.laid.cells,
@@ -286,8 +288,8 @@ module _ (program : TypedProgram) (most : ℕ) where
           → Does {T = ℤ} most kinds kinds IsNumber (answering type) before now (Err why)
       function_stopped type now why calls =
           does_next {U = ℤ} most kinds kinds kinds (AreGiven program variables heading.parameters) IsNumber
-          (arguments_of program most passed) then_call before between now founds (Err why) (goes_all program most passed)
-          does (λ values are. does_stop {T = Cell} {U = ℤ} most kinds kinds kinds (IsResult heading) IsNumber
+          (arguments_of program most passed) then_call before between now founds (Err why)
+          (goes_all program most passed) does (λ values are. does_stop {T = Cell} {U = ℤ} most kinds kinds kinds (IsResult heading) IsNumber
           (call_of program most routine values) (λ found. answered (meaning.defined_result found)) between now why
           (λ found. goes_answered (meaning.defined_result found)) (calls values are))
 

@@ -1,18 +1,19 @@
 -- Cells that are copied and stored as a whole.
 use Rattle.std.proofs.Common.{◌≡◌, ℕ, suc, ◌+◌, ◌<◌, ◌≤◌, List, [], ◌∷◌, ◌++◌, length, take, drop, get_or, drop-cons}
 use Rattle.std.proofs.Common.{slice_set, append_assoc, length-append, get_or-set_same, arith, refl, sym}
-use Rattle.std.proofs.Common.{ap, ap₂, ◌∙◌, subst, Option, Some, None, Result, Ok, Err, inl, inr, IsSome, is_some, option_map, true, false}
+use Rattle.std.proofs.Common.{ap, ap₂, ◌∙◌, subst, Option, Some, None, Result, Ok, Err, inl, inr, IsSome, is_some}
+use Rattle.std.proofs.Common.{option_map, true, false}
 use Rattle.std.proofs.lemmas.List.{take-append-drop, take_more, length-take-le, set_at, set-set, set-get_or}
 use Rattle.wb_ports.specs.PortState.{PortState}
 use Rattle.pas_typed.specs.Types.{PasType, Range, Table, range_of, cells_of as type_cells}
 use Rattle.pas_typed.specs.Typed as typed
 use Rattle.pas_typed.specs.Typed.{Variable, Slot, Value, Place, TypedProgram}
 use Rattle.pas_typed.specs.TypedViews.{slot_view}
-use Rattle.pas_typed.specs.TypeOf.{type_of_place, type_of}
-use Rattle.pas_typed.specs.Lawful.{Takes, IsLawfulSlot}
+use Rattle.pas_typed.specs.TypeOf.{type_of_place, type_of, is_buffer}
+use Rattle.pas_typed.specs.Lawful.{Takes, IsLawful, IsLawfulSlot, IsLawfulPlace}
 use Rattle.pas_typed.specs.Shapes.{size, shape_of}
 use Rattle.pas_typed.specs.declared.typed.Slot.{Slot as CodeSlot}
-use Rattle.pas_typed.proofs.ShapeLemmas.{size-shape_of}
+use Rattle.pas_typed.proofs.ShapeLemmas.{size-shape_of, component-ordinal}
 use Rattle.pas_meaning.specs.declared.errors.TheConstants.{CALL_LIMIT}
 use Rattle.pas_meaning.specs.Answers.{Answer, fine, then_answer}
 use Rattle.pas_meaning.specs.Outcome.{World, Run, Doing, ask, change, changed}
@@ -162,7 +163,8 @@ module _ (program : TypedProgram) (layouts : Layouts) (locals : Layout) (variabl
           stands.activations
           ∙ ap (λ (count : ℕ). cells_at (address_of kinds (reference_to place run.store)) count
           (flat_store kinds run.store)) (is_count ∙ sym (size-shape_of program.types type at.lawful.types))
-          ∙ flat-fetched kinds run.store (reference_to place run.store) (shape_of program.types type) stands.stands aims,
+          ∙ flat-fetched kinds run.store (reference_to place run.store) (shape_of program.types type) stands.stands
+          aims,
     )
 
     pub part_there : home.activation < length machine.activations
@@ -309,9 +311,19 @@ module _ (table : Table) (type : PasType) (whole : IsWhole table type) where
   pub whole_source : (source : PasType) → Takes table type source → IsWhole table source
   whole_source source takes = subst (IsWhole table) (takes_whole source takes) whole
 
+-- a buffer is an ordinal
+pub whole_no_buffer : (program : TypedProgram) (variables : List Variable) (place : Place) → IsLawful program
+    → IsLawfulPlace program variables place → IsWhole program.types (type_of_place place) → is_buffer place ≡ false
+whole_no_buffer program variables (typed.slot slot) lawful is whole = refl
+whole_no_buffer program variables (typed.element place range type index) lawful is whole = refl
+whole_no_buffer program variables (typed.field place number type) lawful is whole = refl
+whole_no_buffer program variables (typed.buffer file type) lawful is whole =
+    absurd (whole_window program.types type
+    (component-ordinal program.types (type_of_place file) type lawful.types is.1) whole)
+
 -- the cells of what is read
 module _ (most : ℕ) (kinds : Kinds) (program : TypedProgram) (variables : List Variable) (place : Place)
-    (before : MachineState) where
+    (slot : CodeSlot) (before : MachineState) where
   abbrev Cells : List Cell → Datum → Type 0
   Cells found datum = AreCells program.types (type_of_place place) found datum
 
@@ -319,43 +331,42 @@ module _ (most : ℕ) (kinds : Kinds) (program : TypedProgram) (variables : List
   holding spot = ask (meaning.read_at program.types (type_of_place place) spot)
 
   pub copy_stop : (now : MachineState) (why : Stop)
-      → Does {T = CodeSpot} most kinds kinds (MeansSpot program variables (type_of_place place))
+      → Does {T = ℕ} most kinds kinds (IsBehind program variables slot (type_of_place place))
       (place_at program most place) before now (Err why)
       → Does {T = List Cell} most kinds kinds Cells (value_of program most (typed.read place)) before now (Err why)
   copy_stop now why does =
-      does_stop {T = CodeSpot} {U = List Cell} most kinds kinds kinds
-      (MeansSpot program variables (type_of_place place)) Cells
+      does_stop {T = ℕ} {U = List Cell} most kinds kinds kinds
+      (IsBehind program variables slot (type_of_place place)) Cells
       (place_at program most place) holding before now why (λ spot. goes_ask _) does
 
-  read_found : (between : MachineState) (found : CodeSpot) (result : Result (List Cell) Stop)
+  read_found : (between : MachineState) (behind : ℕ) (result : Result (List Cell) Stop)
       → IsWhole program.types (type_of_place place) → (spot : Spot)
-      → MeansSpot program variables (type_of_place place) found spot
+      → IsBehind program variables slot (type_of_place place) behind spot
       → ((ports : List PortState) (run : Run Store) → IsRun kinds ports between run
       → IsFound (λ (cells : List Cell). Cells cells (held_at spot run.store)) result)
       → Does most kinds kinds Cells (holding spot) between between result
-  read_found between (code.Part found behind) result whole (window slot of_component) is finds = absurd is
-  read_found between (code.Window found of_code) result whole (window slot of_component) is finds =
-      absurd (whole_window program.types (type_of_place place) is.2 whole)
-  read_found between found result whole (part slot path) is finds =
-      does_found most kinds Cells (meaning.read_at program.types (type_of_place place) (part slot path))
-      (held_at (part slot path)) between result (read_whole program.types (type_of_place place) whole slot path) finds
+  read_found between behind result whole (window found of_component) is finds = absurd is
+  read_found between behind result whole (part found path) is finds =
+      does_found most kinds Cells (meaning.read_at program.types (type_of_place place) (part found path))
+      (held_at (part found path)) between result (read_whole program.types (type_of_place place) whole found path)
+      finds
 
-  pub copy_next : (between : MachineState) (found : CodeSpot) (result : Result (List Cell) Stop)
+  pub copy_next : (between : MachineState) (behind : ℕ) (result : Result (List Cell) Stop)
       → IsWhole program.types (type_of_place place)
-      → Does most kinds kinds (MeansSpot program variables (type_of_place place)) (place_at program most place) before
-      between (Ok found)
-      → ((spot : Spot) → MeansSpot program variables (type_of_place place) found spot
+      → Does most kinds kinds (IsBehind program variables slot (type_of_place place)) (place_at program most place)
+      before between (Ok behind)
+      → ((spot : Spot) → IsBehind program variables slot (type_of_place place) behind spot
       → (ports : List PortState) (run : Run Store) → IsRun kinds ports between run
       → IsFound (λ (cells : List Cell). Cells cells (held_at spot run.store)) result)
       → Does most kinds kinds Cells (value_of program most (typed.read place)) before between result
-  copy_next between found result whole does finds =
-      does_next most kinds kinds kinds (MeansSpot program variables (type_of_place place)) Cells
-      (place_at program most place) holding before between between found result (goes_place_at program most place) does
-      (λ spot is. read_found between found result whole spot is (finds spot is))
+  copy_next between behind result whole does finds =
+      does_next most kinds kinds kinds (IsBehind program variables slot (type_of_place place)) Cells
+      (place_at program most place) holding before between between behind result (goes_place_at program most place) does
+      (λ spot is. read_found between behind result whole spot is (finds spot is))
 
 -- v := w as steps of a run
 module _ (most : ℕ) (kinds : Kinds) (program : TypedProgram) (variables : List Variable) (place : Place)
-    (right : Value) (before : MachineState) where
+    (slot : CodeSlot) (right : Value) (before : MachineState) where
   abbrev given : Datum → Doing Store (Unit {0})
   given datum =
       meaning.assigned (Some CALL_LIMIT) program (within (Some CALL_LIMIT) program most) place datum
@@ -378,48 +389,48 @@ module _ (most : ℕ) (kinds : Kinds) (program : TypedProgram) (variables : List
   module _ (between : MachineState) (copied_cells : List Cell)
       (does : Does most kinds kinds its_cells (value_of program most right) before between (Ok copied_cells)) where
     pub assign_no_place : (now : MachineState) (why : Stop)
-        → Does {T = CodeSpot} most kinds kinds (MeansSpot program variables (type_of_place place))
+        → Does {T = ℕ} most kinds kinds (IsBehind program variables slot (type_of_place place))
         (place_at program most place) between now (Err why)
         → Does {T = Unit {0}} most kinds kinds Any (assignment_of program most place right) before now (Err why)
     assign_no_place now why place_does =
         does_next most kinds kinds kinds its_cells Any (value_of program most right) given before between now
         copied_cells (Err why) (goes_value_of program most right) does
-        (λ datum is. does_stop {T = CodeSpot} {U = Unit {0}} most kinds kinds kinds
-        (MeansSpot program variables (type_of_place place)) Any
+        (λ datum is. does_stop {T = ℕ} {U = Unit {0}} most kinds kinds kinds
+        (IsBehind program variables slot (type_of_place place)) Any
         (place_at program most place) (λ spot. meaning.store_at program.types (type_of_place place) spot datum)
         between now why (λ spot. goes_store program.types (type_of_place place) spot datum) place_does)
 
-    stored_there : (later now : MachineState) (found : CodeSlot) (behind : ℕ) (datum : Datum) (spot : Spot)
+    stored_there : (later now : MachineState) (behind : ℕ) (datum : Datum) (spot : Spot)
         → IsWhole program.types (type_of_place place)
-        → IsBehind program variables found (type_of_place place) behind spot
+        → IsBehind program variables slot (type_of_place place) behind spot
         → Does most kinds kinds Any (change (stored_at (slot_of spot) (path_of spot) datum)) later now (Ok (tt {0}))
         → Does most kinds kinds Any (meaning.store_at program.types (type_of_place place) spot datum) later now
         (Ok (tt {0}))
-    stored_there later now found behind datum (window slot of_component) whole is stores = absurd is
-    stored_there later now found behind datum (part slot path) whole is stores = record {
+    stored_there later now behind datum (window found of_component) whole is stores = absurd is
+    stored_there later now behind datum (part found path) whole is stores = record {
       each = λ ports run stands within.
           subst (λ (answer : Answer Datum). Done kinds ports Any run.world
-          (changed (λ store. then_answer answer (λ checked. fine (stored (along (home_of slot run.store) path) checked
+          (changed (λ store. then_answer answer (λ checked. fine (stored (along (home_of found run.store) path) checked
           run.store))) run) now (Ok (tt {0})))
           (sym (fits_whole program.types (type_of_place place) whole datum)) (stores.each ports run stands within);
     }
 
-    pub assign_next : (later now : MachineState) (found : CodeSlot) (behind : ℕ)
+    pub assign_next : (later now : MachineState) (behind : ℕ)
         → IsWhole program.types (type_of_place place) → Takes program.types (type_of_place place) (type_of right)
-        → Does most kinds kinds (MeansSpot program variables (type_of_place place))
-        (place_at program most place) between later (Ok (code.Part found behind))
+        → Does most kinds kinds (IsBehind program variables slot (type_of_place place))
+        (place_at program most place) between later (Ok behind)
         → ((datum : Datum) → IsOfType program.types (type_of_place place) datum
         → copied_cells ≡ datum_cells datum → (spot : Spot)
-        → IsBehind program variables found (type_of_place place) behind spot
+        → IsBehind program variables slot (type_of_place place) behind spot
         → Does most kinds kinds Any (change (stored_at (slot_of spot) (path_of spot) datum)) later now (Ok (tt {0})))
         → Does most kinds kinds Any (assignment_of program most place right) before now (Ok (tt {0}))
-    assign_next later now found behind whole takes place_does stores =
+    assign_next later now behind whole takes place_does stores =
         does_next most kinds kinds kinds its_cells Any (value_of program most right) given before between now
         copied_cells (Ok (tt {0})) (goes_value_of program most right) does
         (λ datum is. does_next most kinds kinds kinds
-        (MeansSpot program variables (type_of_place place)) Any
+        (IsBehind program variables slot (type_of_place place)) Any
         (place_at program most place) (λ spot. meaning.store_at program.types (type_of_place place) spot datum)
-        between later now (code.Part found behind) (Ok (tt {0})) (goes_place_at program most place) place_does
-        (λ spot spot_is. stored_there later now found behind datum spot whole spot_is
+        between later now behind (Ok (tt {0})) (goes_place_at program most place) place_does
+        (λ spot spot_is. stored_there later now behind datum spot whole spot_is
         (stores datum (subst (λ type. IsOfType program.types type datum)
         (sym (takes_whole program.types (type_of_place place) whole (type_of right) takes)) is.0) is.1 spot spot_is)))

@@ -1,7 +1,7 @@
 -- An activation opens: its cells are those of arguments, of blank variables, and of a result.
 use Rattle.std.proofs.Common.{◌≡◌, ℕ, zero, suc, ◌+◌, ◌-◌, ◌<◌, List, [], ◌∷◌, ◌++◌, length, map, take, drop, get_or}
-use Rattle.std.proofs.Common.{replicate, Option, Some, None, append_assoc, length-append, arith, refl, sym, ap, ap₂, ◌∙◌}
-use Rattle.std.proofs.Common.{subst, ℤ, slice_get, Result, Ok, Err, append-nil, ◌==◌, eqb-true}
+use Rattle.std.proofs.Common.{replicate, Option, Some, None, append_assoc, length-append, arith, refl, sym, ap, ap₂}
+use Rattle.std.proofs.Common.{◌∙◌, subst, ℤ, slice_get, Result, Ok, Err, append-nil, ◌==◌, eqb-true}
 use Rattle.std.specs.Prelude.{option_to_list}
 use Rattle.std.proofs.lemmas.List.{replicate-append-replicate, length-map, map-append, drop_at, get_or_append_left}
 use Rattle.std.proofs.lemmas.List.{get_or_push, take_all}
@@ -16,7 +16,8 @@ use Rattle.pas_typed.specs.TypedViews.{slot_view}
 use Rattle.pas_meaning.specs.Outcome.{Run, Doing, change}
 use Rattle.pas_meaning.specs.Store as pascal
 use Rattle.pas_meaning.specs.Store.{holds, own, Store, home_of, along, blank_of, opened}
-use Rattle.pas_meaning.specs.Run.{body_of, Argument, copied, meant, part, window, cell_of, blank_cell, result_cells, cells_for}
+use Rattle.pas_meaning.specs.Run.{body_of, Argument, copied, meant, part, window, cell_of, blank_cell, result_cells}
+use Rattle.pas_meaning.specs.Run.{cells_for}
 use Rattle.pas_meaning.specs.Standing.{Kind, plain, kind_by, kind_of, Kinds, Stands, Knows, kinds_for, result_kinds}
 use Rattle.pas_meaning.specs.Standing.{IsOfType, AreFor}
 use Rattle.pas_meaning.proofs.CellLemmas.{flat-blank_of}

@@ -14,7 +14,7 @@ use crate::cells::Cell;
 use crate::ends::Stop;
 use crate::layouts::Scene;
 use crate::machine::Machine;
-use crate::spots::{Spot, fits};
+use crate::spots::fits;
 use pas_typed::typed::{Passed, Place, Slot, Value};
 use pas_typed::types::PasType;
 use sqlite_items::Items;
@@ -131,10 +131,7 @@ impl<P: Port> Machine<P> {
         ensures does { PassesOne scene.entry (typed.reference (place_view place.now)) self.old self.new result }
         ensures cause { CountFailures (is_port_failed result) self.old.files self.new.files }
     {
-        let spot = self.spot_at(scene, place, levels)?;
-        match spot {
-            Spot::Part(slot, behind) => Ok(Argument::Named(slot, behind)),
-            Spot::Window(..) => Err(Stop::OutOfMemory),
-        }
+        let behind = self.part_at(scene, place, levels)?;
+        Ok(Argument::Named(place.slot, behind))
     }
 }

@@ -13,8 +13,8 @@ ghost use Rattle.pas_run.specs.inner.FlatStore.{datum_cells};
 ghost use Rattle.pas_run.specs.inner.MachineState.{IsRun, CountFailures};
 ghost use Rattle.pas_run.specs.inner.Scenes.{IsScene};
 ghost use Rattle.pas_run.specs.inner.Doings.{Any, Does, stored_at, is_port_failed};
-ghost use Rattle.pas_run.specs.inner.Evaluating.{IsCount, IsBehind, MeansSpot};
-ghost use Rattle.pas_run.specs.inner.Copying.{IsWhole, IsFound, AreCells, held_at, Copies};
+ghost use Rattle.pas_run.specs.inner.Evaluating.{IsCount, IsBehind};
+ghost use Rattle.pas_run.specs.inner.Copying.{IsFound, AreCells, held_at, Copies};
 ghost use Rattle.pas_run.specs.inner.Running.{AssignsWhole};
 
 use crate::cells::Cell;
@@ -22,15 +22,13 @@ use crate::ends::Stop;
 use crate::layouts::Scene;
 use crate::machine::Machine;
 use crate::selectors::behind_cells;
-use crate::spots::Spot;
 use pas_typed::typed::{Place, Slot, Value};
 use pas_typed::types::PasType;
 use sqlite_items::Items;
 use wb_ports::Port;
 
 impl<P: Port> Machine<P> {
-    // v := w for variables of an array or record type: the value first, and then the indexes of the place. No level
-    // that is left is want of memory.
+    // v := w for variables of an array or record type: the value first, and then the indexes of the place.
     pub(crate) fn assign_whole(
         &mut self,
         scene: Scene<'_>,
@@ -42,17 +40,13 @@ impl<P: Port> Machine<P> {
         ensures cause { CountFailures (is_port_failed result) self.old.files self.new.files }
     {
         let copied = self.copy_of(scene, right, levels)?;
-        let spot = self.spot_at(scene, place, levels)?;
-        match spot {
-            Spot::Part(slot, behind) => {
-                self.store_copy(scene, slot, behind, copied.as_slice());
-                Ok(())
-            }
-            Spot::Window(..) => Err(Stop::OutOfMemory),
-        }
+        let behind = self.part_at(scene, place, levels)?;
+        self.store_copy(scene, place.slot, behind, copied.as_slice());
+        Ok(())
     }
 
-    // The cells of a value of an array or record type, which is read from a place.
+    // The cells of a value of an array or record type, which is read from a place: no value of another form is of such
+    // a type. No level that is left is want of memory.
     #[cycle(running)]
     pub(crate) fn copy_of(
         &mut self,
@@ -85,25 +79,8 @@ impl<P: Port> Machine<P> {
         ensures does { Copies scene.entry (typed.read (place_view place.now)) self.old self.new result }
         ensures cause { CountFailures (is_port_failed result) self.old.files self.new.files }
     {
-        let spot = self.spot_at(scene, place, levels)?;
-        self.copy_at(scene, place.pas_type(), spot)
-    }
-
-    // The cells of what a place holds that is no buffer.
-    fn copy_at(&self, scene: Scene<'_>, pas_type: PasType, spot: Spot) -> Result<Items<Cell>, Stop>
-        ensures found { (variables : List typed.Variable) (result' : Option types.PasType) (kinds : Kinds)
-            → IsScene scene.entry variables result' kinds
-            → IsWhole (program_view scene.entry.program.now).types (type_view pas_type) → (place : meaning.Spot)
-            → MeansSpot (program_view scene.entry.program.now) variables (type_view pas_type) spot place
-            → (ports : List PortState) (run : Run store.Store) → IsRun kinds ports self.now run
-            → IsFound (λ found. AreCells (program_view scene.entry.program.now).types (type_view pas_type) found
-            (held_at place run.store)) result }
-        ensures quiet { is_port_failed result ≡ false }
-    {
-        match spot {
-            Spot::Part(slot, behind) => self.copy_part(scene, pas_type, slot, behind),
-            Spot::Window(..) => Err(Stop::OutOfMemory),
-        }
+        let behind = self.part_at(scene, place, levels)?;
+        self.copy_part(scene, place.pas_type(), place.slot, behind)
     }
 
     // The cells of a part of a variable.

@@ -59,7 +59,9 @@ use Rattle.pas_run.specs.declared.arguments.Argument.{Argument as CodeArgument}
 use Rattle.pas_run.specs.declared.spots.Spot.{Spot as CodeSpot}
 use Rattle.pas_run.specs.inner.Copying.{IsWhole, IsFound, AreCells, held_at, Copies}
 use Rattle.pas_run.specs.inner.Calling.{AreGiven, IsOneGiven, arguments_of, PassesOne}
-use Rattle.pas_run.proofs.CopyLemmas.{copy_stop, copy_next}
+use Rattle.std.proofs.Common.{ℕ}
+use Rattle.pas_run.proofs.SelectorLemmas.{does_stopped}
+use Rattle.pas_run.proofs.CopyLemmas.{whole_no_buffer, copy_stop, copy_next}
 use Rattle.pas_run.proofs.CopyLemmas.{whole_source, some_view, none_view}
 use Rattle.pas_run.proofs.ArgumentLemmas.{none_given, more_given, one_stops, passed_at, passed_long, parts_at, more_at}
 use Rattle.pas_run.proofs.ArgumentLemmas.{value_stop, value_next, whole_stop, whole_next, place_stop, place_next}
@@ -580,9 +582,24 @@ spot_at-returns-in_ok-slot-clause-does g t c variables result kinds at is most =
     (place_view c.args.place.now) c.in_ok-slot.slot c.pas_type.result (c.is_buffer.ensures ∙ c.if-is_buffer.true) is
     c.pas_type.ensures c.in_ok-slot.ensures.variable
 
-pub spot_at-returns-else-is_buffer-clause-does : goal.spot_at-returns-else-is_buffer-clause-does
-spot_at-returns-else-is_buffer-clause-does g t c =
-    c.part_at.ensures.does (c.is_buffer.ensures ∙ c.if-is_buffer.false)
+pub spot_at-returns-in_err-behind-clause-does : goal.spot_at-returns-in_err-behind-clause-does
+spot_at-returns-in_err-behind-clause-does g t c variables result kinds at is most =
+    let program = program_view c.args.scene.program.now in
+    let place : Place = place_view c.args.place.now in
+    does_early most kinds kinds (MeansSpot program variables (type_of_place place)) (place_at program most place)
+    c.args.self.now c.part_at.new.self c.in_err-behind.field-0.0 c.from_residual-in_err-behind.result
+    (err_from_is_err_and _ c.from_residual-in_err-behind.ensures.1)
+    (does_stopped {T = ℕ} {U = CodeSpot} most kinds kinds
+    (IsBehind program variables c.args.place.now.slot (type_of_place place))
+    (MeansSpot program variables (type_of_place place)) (place_at program most place) c.args.self.now
+    c.part_at.new.self c.in_err-behind.field-0.0
+    (c.in_err-behind.ensures.does (c.is_buffer.ensures ∙ c.if-is_buffer.false) variables result kinds at is most))
+
+pub spot_at-returns-in_ok-behind-clause-does : goal.spot_at-returns-in_ok-behind-clause-does
+spot_at-returns-in_ok-behind-clause-does g t c variables result kinds at is most =
+    does_part (program_view c.args.scene.program.now) at.lawful variables most kinds c.args.place.now.slot
+    c.in_ok-behind.behind (place_view c.args.place.now) c.args.self.now c.part_at.new.self
+    (c.in_ok-behind.ensures.does (c.is_buffer.ensures ∙ c.if-is_buffer.false) variables result kinds at is most)
 
 pub part_at-loop-part-init : goal.part_at-loop-part-init
 part_at-loop-part-init g t c = (
@@ -641,9 +658,12 @@ part_at-returns-in_err-behind-clause-does g t c other variables result kinds at 
     turned_at first part_view items i item c.loop-part-test.true c.part-item.is
     ∙ ap (λ (parts : List code_part.Part). in_turn first (map part_view parts)) c.as_slice-part-items.ensures
     ∙ place_out c.args.place.now in
-    does_early most kinds kinds (MeansSpot program variables (type_of_place place)) (place_at program most place)
+    does_early most kinds kinds (IsBehind program variables slot (type_of_place place)) (place_at program most place)
     c.args.self.now c.behind_part.new.self c.in_err-behind.field-0.0 c.from_residual.result
     (err_from_is_err_and _ c.from_residual.ensures.1)
+    (does_stopped {T = CodeSpot} {U = ℕ} most kinds kinds (MeansSpot program variables (type_of_place place))
+    (IsBehind program variables slot (type_of_place place)) (place_at program most place) c.args.self.now
+    c.behind_part.new.self c.in_err-behind.field-0.0
     (all_stops program at.lawful variables most kinds c.args.self.now c.behind_part.new.self
     c.in_err-behind.field-0.0 (IsBehind program variables slot (type_of_place (part_view item so_far)))
     (drop (suc i) items) (part_view item so_far) place all other is
@@ -655,7 +675,7 @@ part_at-returns-in_err-behind-clause-does g t c other variables result kinds at 
     (subst (IsLawfulPlace program variables) (sym all) is)) c.loop-part.invariant.0 slot most c.args.self.now
     (subst (λ (type : PasType). Does most kinds kinds (IsBehind program variables slot type)
     (place_at program most so_far) c.args.self.now c.loop-part.self (Ok c.loop-part.behind))
-    c.loop-part.invariant.0 (c.loop-part.invariant.2 other variables result kinds at is most))))
+    c.loop-part.invariant.0 (c.loop-part.invariant.2 other variables result kinds at is most)))))
 
 pub part_at-returns-clause-does : goal.part_at-returns-clause-does
 part_at-returns-clause-does g t c other variables result kinds at is most =
@@ -665,13 +685,12 @@ part_at-returns-clause-does g t c other variables result kinds at is most =
     let items : List code_part.Part = c.as_slice-part-items.result.now in
     let i = c.loop-part.part-index in
     let so_far : Place = in_turn first (map part_view (take i items)) in
-    subst (λ (place : Place). Does most kinds kinds (MeansSpot program variables (type_of_place place))
-    (place_at program most place) c.args.self.now c.loop-part.self (Ok (code.Part slot c.loop-part.behind)))
+    subst (λ (place : Place). Does most kinds kinds (IsBehind program variables slot (type_of_place place))
+    (place_at program most place) c.args.self.now c.loop-part.self (Ok c.loop-part.behind))
     (turned_all first part_view items i c.loop-part-test.false
     ∙ ap (λ (parts : List code_part.Part). in_turn first (map part_view parts)) c.as_slice-part-items.ensures
     ∙ place_out c.args.place.now)
-    (does_part program at.lawful variables most kinds slot c.loop-part.behind so_far c.args.self.now c.loop-part.self
-    (c.loop-part.invariant.2 other variables result kinds at is most))
+    (c.loop-part.invariant.2 other variables result kinds at is most)
 
 pub behind_part-returns-in-Element-clause-does : goal.behind_part-returns-in-Element-clause-does
 behind_part-returns-in-Element-clause-does g t c =
@@ -780,30 +799,33 @@ copy_of-returns-in-Read-clause-does g t c =
     place)) (sym c.get-in-Read.ensures)))
     c.copy_of_place.ensures.does
 
-pub copy_of_place-returns-in_err-spot-clause-does : goal.copy_of_place-returns-in_err-spot-clause-does
-copy_of_place-returns-in_err-spot-clause-does g t c variables result kinds at is most =
+pub copy_of_place-returns-in_err-behind-clause-does : goal.copy_of_place-returns-in_err-behind-clause-does
+copy_of_place-returns-in_err-behind-clause-does g t c variables result kinds at is most =
     let program = program_view c.args.scene.program.now in
     let place = place_view c.args.place.now in
     does_early most kinds kinds (AreCells program.types (type_of_place place))
     (value_of program most (typed.read place)) c.args.self.now
-    c.spot_at.new.self c.in_err-spot.field-0.0 c.from_residual.result
+    c.part_at.new.self c.in_err-behind.field-0.0 c.from_residual.result
     (err_from_is_err_and _ c.from_residual.ensures.1)
-    (copy_stop most kinds program variables place c.args.self.now c.spot_at.new.self c.in_err-spot.field-0.0
-    (c.in_err-spot.ensures.does variables result kinds at is.0 most))
+    (copy_stop most kinds program variables place c.args.place.now.slot c.args.self.now c.part_at.new.self
+    c.in_err-behind.field-0.0
+    (c.in_err-behind.ensures.does (whole_no_buffer program variables place at.lawful is.0 is.1) variables result kinds
+    at is.0 most))
 
 pub copy_of_place-returns-clause-does : goal.copy_of_place-returns-clause-does
 copy_of_place-returns-clause-does g t c variables result kinds at is most =
     let program = program_view c.args.scene.program.now in
     let place = place_view c.args.place.now in
-    copy_next most kinds program variables place c.args.self.now c.spot_at.new.self c.in_ok-spot.spot c.copy_at.result
-    is.1 (c.in_ok-spot.ensures.does variables result kinds at is.0 most)
+    let slot = c.args.place.now.slot in
+    copy_next most kinds program variables place slot c.args.self.now c.part_at.new.self c.in_ok-behind.behind
+    c.copy_part.result is.1
+    (c.in_ok-behind.ensures.does (whole_no_buffer program variables place at.lawful is.0 is.1) variables result kinds
+    at is.0 most)
     (λ spot spot_is ports run stands.
-    subst (λ (type : PasType). IsWhole program.types type
-    → MeansSpot program variables type c.in_ok-spot.spot spot
-    → IsFound (λ found. AreCells program.types type found (held_at spot run.store)) c.copy_at.result)
+    subst (λ (type : PasType). IsBehind program variables slot type c.in_ok-behind.behind spot
+    → IsFound (λ found. AreCells program.types type found (held_at spot run.store)) c.copy_part.result)
     (sym c.pas_type.ensures)
-    (λ is_whole spot_is. c.copy_at.ensures.found variables result kinds at is_whole spot spot_is ports run stands)
-    is.1 spot_is)
+    (λ spot_is. c.copy_part.ensures.found variables result kinds at spot spot_is ports run stands) spot_is)
 
 -- arguments
 
@@ -887,25 +909,21 @@ whole_argument-returns-clause-does g t c is_whole variables result kinds at para
       subst (λ (type : PasType). AreCells program.types type c.in_ok-copied.copied datum) (sym is.1) datum_is,
     ))
 
-pub place_argument-returns-in_err-spot-clause-does : goal.place_argument-returns-in_err-spot-clause-does
-place_argument-returns-in_err-spot-clause-does g t c variables result kinds at parameter is most =
+pub place_argument-returns-in_err-behind-clause-does : goal.place_argument-returns-in_err-behind-clause-does
+place_argument-returns-in_err-behind-clause-does g t c variables result kinds at parameter is most =
     let program = program_view c.args.scene.program.now in
     let place = place_view c.args.place.now in
     does_early most kinds kinds (IsOneGiven program variables parameter)
-    (arguments_of program most (typed.reference place typed.nothing)) c.args.self.now c.spot_at.new.self
-    c.in_err-spot.field-0.0 c.from_residual.result (err_from_is_err_and _ c.from_residual.ensures.1)
-    (place_stop program variables most kinds c.args.self.now parameter place c.spot_at.new.self
-    c.in_err-spot.field-0.0 (c.in_err-spot.ensures.does variables result kinds at is.2 most))
+    (arguments_of program most (typed.reference place typed.nothing)) c.args.self.now c.part_at.new.self
+    c.in_err-behind.field-0.0 c.from_residual.result (err_from_is_err_and _ c.from_residual.ensures.1)
+    (place_stop program variables most kinds c.args.self.now parameter place c.args.place.now.slot c.part_at.new.self
+    c.in_err-behind.field-0.0 (c.in_err-behind.ensures.does is.3 variables result kinds at is.2 most))
 
-pub place_argument-returns-in-Part-clause-does : goal.place_argument-returns-in-Part-clause-does
-place_argument-returns-in-Part-clause-does g t c variables result kinds at parameter is most =
-    let program = program_view c.args.scene.program.now in
-    let place = place_view c.args.place.now in
-    place_next program variables most kinds c.args.self.now parameter place c.spot_at.new.self c.in-Part.slot
-    c.in-Part.behind is
-    (subst (λ (spot : CodeSpot). Does most kinds kinds (MeansSpot program variables (type_of_place place))
-    (place_at program most place) c.args.self.now c.spot_at.new.self (Ok spot)) c.in-Part.is
-    (c.in_ok-spot.ensures.does variables result kinds at is.2 most))
+pub place_argument-returns-clause-does : goal.place_argument-returns-clause-does
+place_argument-returns-clause-does g t c variables result kinds at parameter is most =
+    place_next (program_view c.args.scene.program.now) variables most kinds c.args.self.now parameter
+    (place_view c.args.place.now) c.args.place.now.slot c.part_at.new.self c.in_ok-behind.behind is
+    (c.in_ok-behind.ensures.does is.3 variables result kinds at is.2 most)
 
 pub value_argument-returns-then-is_some-clause-does : goal.value_argument-returns-then-is_some-clause-does
 value_argument-returns-then-is_some-clause-does g t c =
@@ -956,8 +974,8 @@ arguments-loop-one-preserved g t c =
           (subst (λ (passed : List code_passed.Passed). ArePassed program variables (passed_views passed) parameters)
           (sym c.as_slice-one-items.ensures) are) in
           subst₂ (λ (parameters : List Variable) (passed : List code_passed.Passed).
-          Does most kinds kinds (AreGiven program variables parameters) (arguments_of program most (passed_views passed))
-          c.args.self.now c.argument.new.self (Ok c.push.new.self)) (sym found.more)
+          Does most kinds kinds (AreGiven program variables parameters)
+          (arguments_of program most (passed_views passed)) c.args.self.now c.argument.new.self (Ok c.push.new.self)) (sym found.more)
           (sym (more_at items i item c.loop-one-test.true c.one-item.is))
           (subst (λ (founds : List CodeArgument). Does most kinds kinds
           (AreGiven program variables (take i parameters ++ found.parameter ∷ []))

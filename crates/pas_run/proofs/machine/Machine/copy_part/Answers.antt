@@ -14,7 +14,8 @@ returns-in_err-count-clause-found g c variables result kinds at place is ports r
     let type = type_view c.args.pas_type in
     found_early (λ (found : List Cell). AreCells table type found (held_at place run.store)) c.in_err-count.field-0.0
     c.from_residual.result (err_from_is_err_and _ c.from_residual.ensures.1)
-    (count_found (λ (found : List Cell). AreCells table type found (held_at place run.store)) (cells_of table type) c.in_err-count.field-0.0 c.in_err-count.ensures.count)
+    (count_found (λ (found : List Cell). AreCells table type found (held_at place run.store))
+    (cells_of table type) c.in_err-count.field-0.0 c.in_err-count.ensures.count)
 
 pub returns-clause-found : goal.returns-clause-found
 returns-clause-found g c variables result kinds at place is ports run stands =

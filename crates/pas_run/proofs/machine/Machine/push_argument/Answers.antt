@@ -17,4 +17,5 @@ returns-in_ok-push-in-Named-clause-found g c variables result kinds at parameter
     c.in-Named.slot c.in-Named.behind value given ports c.args.self.now run stands c.home_of.result
     (c.home_of.ensures variables result kinds at
     (named_slot program c.args.scene.layouts.now c.args.scene.locals.now variables result kinds at parameter
-    c.in-Named.slot c.in-Named.behind value given) ports run stands) c.in_ok-at-in-Named.at c.in_ok-at-in-Named.ensures.found))
+    c.in-Named.slot c.in-Named.behind value given) ports run stands) c.in_ok-at-in-Named.at
+    c.in_ok-at-in-Named.ensures.found))

@@ -7,5 +7,5 @@ returns-clause-does g c variables result kinds at type place is datum shaped sam
     does_store_whole (program_view c.args.scene.program.now) c.args.scene.layouts.now c.args.scene.locals.now variables
     result kinds at c.args.slot type c.args.behind place is c.args.self.now _ c.home_of-home.result
     (c.home_of-home.ensures variables result kinds at
-    (place_slot (program_view c.args.scene.program.now) variables c.args.slot type c.args.behind place is)) datum shaped c.args.cells.now same c.set_cells.ensures.stored
-    most
+    (place_slot (program_view c.args.scene.program.now) variables c.args.slot type c.args.behind place is)) datum shaped
+    c.args.cells.now same c.set_cells.ensures.stored most
