@@ -24,7 +24,7 @@ use Rattle.pas_types.specs.inner.Ends.{AreQuiet}
 use Rattle.pas_types.specs.inner.Answers.{IsQuiet, Shows, FailsBy}
 use Rattle.pas_types.specs.inner.Declared.{Notes}
 use Rattle.pas_types.specs.inner.Checking.{main_words, main_part, IsHeading}
-use Rattle.pas_types.proofs.AsMany.{AsMany, and_then}
+use Rattle.pas_types.proofs.AsMany.{AsMany, and_then, next_word}
 use Rattle.pas_types.proofs.StatementsAsMany.{statements_many}
 use Rattle.pas_types.proofs.DeclarationsAsMany.{labels_many, rows_many, constant_row_many, type_row_many}
 use Rattle.pas_types.proofs.DeclarationsAsMany.{global_row_many}
@@ -157,7 +157,7 @@ module _ (program : Program) where
   many_labels : AsMany (words_if labels_words program.labels) (label_marks program.labels)
       → AsMany after_head from_head
   many_labels labels =
-      and_then quiet from_labels (record { same = refl })
+      next_word (at 0 k.Semicolon program.behind_heading) [] from_labels
       (and_then (label_marks program.labels) from_constants labels many_constants)
 
   in_front : (P : List Word → Marks → Type 0)
