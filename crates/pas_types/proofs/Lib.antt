@@ -83,3 +83,7 @@ pub mod TransferItems
 pub mod FileLemmas
 pub mod TransferParts
 pub mod WriteParts
+pub mod BegunLemmas
+pub mod MainLemmas
+pub mod ParameterLemmas
+pub mod ProgramLemmas

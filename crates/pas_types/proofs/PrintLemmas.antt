@@ -171,7 +171,8 @@ module _ (scopes : Scopes) (n : ℕ) (word : Word) (bytes : List ℕ) where
   string_fails width why h =
       subst (λ (part : Judged Item). FailsBy (string_words (Some width)) part.marks why)
       (string_seen scopes n (word ∷ []) bytes (Some width))
-      (printed_width scopes n (word ∷ []) (means (tt {0})) make width (tt {0}) (lawful_end word.token.line) why stands refl h)
+      (printed_width scopes n (word ∷ []) (means (tt {0})) make width (tt {0}) (lawful_end word.token.line) why stands
+      refl h)
 
   pub string_stands : (width : Behind Expr) (other : Value) (last : Ending)
       → StandsAs (expr_words n 0 width.item) (checked (only integer scopes.outer.types)
@@ -180,8 +181,8 @@ module _ (scopes : Scopes) (n : ℕ) (word : Word) (bytes : List ℕ) where
   string_stands width other last h =
       subst (λ (part : Judged Item). StandsAs (string_words (Some width)) part
       (typed.string_item bytes (Some other)) last) (string_seen scopes n (word ∷ []) bytes (Some width))
-      (printed_stands scopes n (word ∷ []) (means (tt {0})) make width (tt {0}) other (lawful_end word.token.line) last stands refl
-      h)
+      (printed_stands scopes n (word ∷ []) (means (tt {0})) make width (tt {0}) other (lawful_end word.token.line) last
+      stands refl h)
 
   pub string_alone : StandsAs (string_words None) (string_part None) (typed.string_item bytes None)
       (lawful_end word.token.line)

@@ -4,6 +4,7 @@
 mod assignments;
 mod calls;
 mod cases;
+mod checking;
 mod constants;
 mod declarations;
 mod expressions;

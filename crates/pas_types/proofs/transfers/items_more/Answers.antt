@@ -30,7 +30,8 @@ returns-in_err-found c clear n =
     (at n k.RightParenthesis c.args.arguments.now.closed) why c.from_residual.result
     (err_from_is_err_and _ c.from_residual.ensures.1)
     (λ name first still. more_fails scopes spellings n look (written_many scopes spellings n) name
-    c.args.arguments.now.closed (item_view spellings) before first all (take i items) c.more-item.result (drop (suc i) items)
+    c.args.arguments.now.closed (item_view spellings) before first all (take i items) c.more-item.result
+    (drop (suc i) items)
     (taken_split items all i c.more-item.result c.as_slice-more-items.ensures c.loop-index-test.true c.more-item.is)
     c.loop-index.items (c.loop-index.invariant clear n name first still) why
     (c.in_err-found.ensures clear n))
@@ -50,7 +51,8 @@ returns-in_err-before c clear n =
     (at n k.RightParenthesis closed) why c.from_residual-in_err-before.result
     (err_from_is_err_and _ c.from_residual-in_err-before.ensures.1)
     (λ name first still. more_short scopes spellings n look (written_many scopes spellings n) name
-    closed (item_view spellings) before first all (take i items) c.more-item.result (drop (suc i) items)
+    closed (item_view spellings) before first all (take i items) c.more-item.result
+    (drop (suc i) items)
     (taken_split items all i c.more-item.result c.as_slice-more-items.ensures c.loop-index-test.true c.more-item.is)
     c.loop-index.items (c.loop-index.invariant clear n name first still) c.in_ok-found.found
     (c.in_ok-found.ensures clear n) c.line_behind.result why
@@ -73,7 +75,8 @@ loop-index-preserved c clear n name first still =
     (items_behind scopes spellings n look (take i items ++ c.more-item.result ∷ [])) found)
     (sym c.in_ok-push.ensures.ok)
     (one_more scopes spellings n look (written_many scopes spellings n) name
-    c.args.arguments.now.closed (item_view spellings) before first all (take i items) c.more-item.result (drop (suc i) items)
+    c.args.arguments.now.closed (item_view spellings) before first all (take i items) c.more-item.result
+    (drop (suc i) items)
     (taken_split items all i c.more-item.result c.as_slice-more-items.ensures c.loop-index-test.true c.more-item.is)
     c.loop-index.items (c.loop-index.invariant clear n name first still) c.in_ok-found.found
     (c.in_ok-found.ensures clear n) c.line_behind.result c.in_ok-before.field-0
@@ -85,7 +88,8 @@ returns c clear n name first still =
     let spellings = c.args.scopes.now.spellings.now in
     let look = item_written scopes.outer.types in
     let items = c.as_slice-more-items.result.now in
-    subst (λ (done : List (CodeBehind CodeArgument)). Gathered (item_view spellings) (map (item_view spellings) c.args.items) name first
+    subst (λ (done : List (CodeBehind CodeArgument)). Gathered (item_view spellings)
+    (map (item_view spellings) c.args.items) name first
     (items_behind scopes spellings n look done) c.loop-index.items)
     (taken_all items c.loop-index.index c.loop-index-test.false ∙ c.as_slice-more-items.ensures)
     (c.loop-index.invariant clear n name first still)

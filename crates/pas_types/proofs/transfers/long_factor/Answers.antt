@@ -28,7 +28,8 @@ returns-in-Parenthesized c =
     let spellings = c.args.scopes.now.spellings.now in
     subst (λ (factor : Factor). text_in (tree.sum (tree.first_term (tree.first_factor factor))) ≡ None)
     (sym (ap (factor_in spellings) c.in-Parenthesized.is
-    ∙ parenthesized_view spellings c.in-Parenthesized.field-0 c.in-Parenthesized.field-1 c.in-Parenthesized.field-2)) refl
+    ∙ parenthesized_view spellings c.in-Parenthesized.field-0 c.in-Parenthesized.field-1 c.in-Parenthesized.field-2))
+    refl
 
 pub returns-in-Negated : goal.returns-in-Negated
 returns-in-Negated c =

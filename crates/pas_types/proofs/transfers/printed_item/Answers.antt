@@ -30,7 +30,8 @@ returns-in_err-found c clear n =
     let value : Judged Value = value_of scopes argument.value in
     let part : Judged Value = checked demand value in
     let why = c.in_err-found.field-0.0 in
-    stands_stop (printed_words scopes n words part make argument.width) (printed scopes n words part make argument.width)
+    stands_stop (printed_words scopes n words part make argument.width)
+    (printed scopes n words part make argument.width)
     (item_view spellings) why c.from_residual.result (err_from_is_err_and _ c.from_residual.ensures.1)
     (printed_fails scopes n words part make argument.width why
     (stops_fails words part why (checked_stops_by words demand value why (c.in_err-found.ensures clear n 0))))
@@ -46,7 +47,8 @@ returns-in_err-found-2 c clear n =
     let value : Judged Value = value_of scopes argument.value in
     let part : Judged Value = checked demand value in
     let why = c.in_err-found-2.field-0.0 in
-    stands_stop (printed_words scopes n words part make argument.width) (printed scopes n words part make argument.width)
+    stands_stop (printed_words scopes n words part make argument.width)
+    (printed scopes n words part make argument.width)
     (item_view spellings) why c.from_residual-in_err-found-2.result
     (err_from_is_err_and _ c.from_residual-in_err-found-2.ensures.1)
     (printed_fails scopes n words part make argument.width why
@@ -147,6 +149,7 @@ returns-in-None c clear n =
     StandsAs (printed_words scopes n words part make (if_there (behind_in (expr_in spellings)) w))
     (printed scopes n words part make (if_there (behind_in (expr_in spellings)) w))
     (item_view spellings c.item_as-in-None.result) (end_in found.end)) (sym c.in-None.is)
-    (subst (λ (item : Item). StandsAs (printed_words scopes n words part make None) (printed scopes n words part make None) item
+    (subst (λ (item : Item). StandsAs (printed_words scopes n words part make None)
+    (printed scopes n words part make None) item
     (end_in found.end)) (sym c.item_as-in-None.ensures)
     (printed_alone scopes n words part make (value_view found.value) (end_in found.end) stands))
