@@ -71,6 +71,7 @@ pub mod FormalsLemmas
 pub mod HeadingLemmas
 pub mod RoutineLemmas
 pub mod FirstHeadingLemmas
+pub mod SecondLemmas
 pub mod GlobalRowLemmas
 pub mod AddedLemmas
 pub mod RowLemmas

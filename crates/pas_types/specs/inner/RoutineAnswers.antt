@@ -142,6 +142,11 @@ abbrev pub HeadsBy : List Word → HeadingStage → CodeScopes → Result ℕ St
 HeadsBy words stage scopes (Ok number) = Heads words stage scopes number
 HeadsBy words stage scopes (Err why) = FailsBy words stage.marks why
 
+-- what is answered of a heading behind its forward heading
+abbrev pub IsSecond : List Word → Marks → Result (Unit {0}) Stop → Type 0
+IsSecond words marks (Ok done) = IsQuiet words marks false
+IsSecond words marks (Err why) = FailsBy words marks why
+
 -- each name shows the same in both scopes where it is a parameter of the program
 abbrev pub ServesAs : Outer → Outer → Type 0
 ServesAs outer other =
