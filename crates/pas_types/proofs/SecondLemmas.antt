@@ -1,7 +1,6 @@
 -- A heading behind its forward heading: what is answered of it, and the routine that it is of.
-use Rattle.std.proofs.Common.{◌≡◌, refl, sym, ap, subst, ◌∙◌, ℕ, Bool, true, false, List, [], ◌∷◌, Option, Some, None}
-use Rattle.std.proofs.Common.{IsSome, Result, Ok, Err}
-use Rattle.std.specs.Prelude.{option_and_then, option_map, is_some, slice_get, ◌&&◌, if◌then◌else◌}
+use Rattle.std.proofs.Common.{refl, ℕ, Option, Some, None}
+use Rattle.std.proofs.Common.{Result, Ok, Err}
 use Rattle.wb_base.specs.declared.faults.TheConstants.{WRONG_TYPE}
 use Rattle.pas_tokens.specs.Cutting.{wrong}
 use Rattle.pas_tokens.specs.Tokens.{fault_in}
@@ -11,7 +10,6 @@ use Rattle.pas_types.specs.declared.stop.Stop.{Stop}
 use Rattle.pas_types.specs.declared.stop.Stop.TheVariants as stop
 use Rattle.pas_types.specs.Scopes.{Outer}
 use Rattle.pas_types.specs.Routines.{Sort, HeadingParts, second_heading}
-use Rattle.pas_types.specs.inner.Answers.{Shows, IsQuiet}
 use Rattle.pas_types.specs.inner.RoutineAnswers.{parts_words, IsSecond}
 use Rattle.pas_types.proofs.RoutinesAsMany.{second_heading_many}
 

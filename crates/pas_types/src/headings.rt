@@ -77,10 +77,7 @@ pub(crate) fn head_of(routine: &Routine) -> HeadingParts<'_>
 }
 
 // Declares the routine of a first heading, and tells its number.
-pub(crate) fn first_heading(
-    scopes: &mut Scopes<'_>,
-    head: HeadingParts<'_>,
-) -> Result<u32, Stop>
+pub(crate) fn first_heading(scopes: &mut Scopes<'_>, head: HeadingParts<'_>) -> Result<u32, Stop>
     ensures heads { (word : Word) → IsReady scopes.old → HeadsBy
         (parts_words word (parts_in scopes.old.spellings.now head.entry) head.entry.end)
         (spec.first_heading (outer_view scopes.old) (parts_in scopes.old.spellings.now head.entry)) scopes.new
@@ -239,10 +236,7 @@ fn tells_result(head: HeadingParts<'_>) -> bool
 }
 
 // The type of the result of a function, if one is given.
-fn result_of(
-    scopes: &Scopes<'_>,
-    given: Option<Behind<Ident>>,
-) -> Result<Option<PasType>, Stop>
+fn result_of(scopes: &Scopes<'_>, given: Option<Behind<Ident>>) -> Result<Option<PasType>, Stop>
     ensures { (inner : CodeInner) → IsWithin inner scopes.now → IsResult
         (if_there (behind_in (type_name_in scopes.now.spellings.now)) given)
         (words_if result_words (if_there (behind_in (type_name_in scopes.now.spellings.now)) given))
