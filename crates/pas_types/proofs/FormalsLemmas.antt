@@ -274,7 +274,7 @@ module _ (outer : Outer) (inner : Inner) (parameters : Parameters) where
   pub enclosed_passes : (new : CodeScopes) (result : Result (Unit {0}) Stop)
       → PassesFormals inside_words inside new result
       → PassesFormals (parameters_words parameters) (formals_of outer inner (Some parameters)) new result
-  enclosed_passes new (Ok passed) h = (
+  enclosed_passes new (Ok found) h = (
     quiet_behind (opened ∷ []) (inside_words ++ closed ∷ []) quiet (joined (inside.marks ∷ quiet ∷ [])) false
         (quiet_word opened)
         (quiet_behind inside_words (closed ∷ []) inside.marks (joined (quiet ∷ [])) false h.0
