@@ -72,6 +72,7 @@ pub mod HeadingLemmas
 pub mod RoutineLemmas
 pub mod FirstHeadingLemmas
 pub mod SecondLemmas
+pub mod BlockLemmas
 pub mod GlobalRowLemmas
 pub mod AddedLemmas
 pub mod RowLemmas

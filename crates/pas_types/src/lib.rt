@@ -2,6 +2,7 @@
 #![tactic(auto)]
 
 mod assignments;
+mod blocks;
 mod calls;
 mod cases;
 mod constants;
@@ -21,6 +22,7 @@ mod names;
 mod new_names;
 mod noting;
 mod results;
+mod routines;
 mod scopes;
 mod simple_types;
 mod statements;
