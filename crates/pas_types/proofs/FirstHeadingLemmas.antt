@@ -1,37 +1,35 @@
 -- The first heading of a routine: what is answered of it, and the scopes behind it.
 use Rattle.std.proofs.Common.{◌≡◌, refl, sym, ap, subst, ◌∙◌, ℕ, ◌+◌, arith, Bool, true, false, List, [], ◌∷◌, ◌++◌}
-use Rattle.std.proofs.Common.{map, length, Option, Some, None, IsSome, Result, Ok, Err}
+use Rattle.std.proofs.Common.{map, length, Option, Some, None, IsSome, Result, Ok}
 use Rattle.std.proofs.lemmas.List.{map-append, length-map}
-use Rattle.std.specs.Prelude.{option_map, is_some, if◌then◌else◌}
+use Rattle.std.specs.Prelude.{option_map, if◌then◌else◌}
 use Rattle.pas_tokens.specs.Cutting.{Wrong}
-use Rattle.pas_syntax.specs.Tree.{Ident}
-use Rattle.pas_syntax.specs.Views.{spelled_in, ident_in}
+use Rattle.pas_syntax.specs.Views.{spelled_in}
 use Rattle.pas_syntax.specs.Words.{Word, name_at}
-use Rattle.pas_syntax.specs.declared.tree.Ident.{Ident as CodeIdent}
 use Rattle.pas_typed.specs.declared.types.PasType.{PasType as CodePasType}
-use Rattle.pas_typed.specs.Types.{PasType, Table, Made}
+use Rattle.pas_typed.specs.Types.{PasType, Made}
 use Rattle.pas_typed.specs.Typed.{Variable, Heading, local}
-use Rattle.pas_typed.specs.TypeViews.{type_view, table_view}
-use Rattle.pas_typed.specs.TypedViews.{variable_view, heading_view}
+use Rattle.pas_typed.specs.TypeViews.{type_view}
+use Rattle.pas_typed.specs.TypedViews.{variable_view}
 use Rattle.pas_types.specs.declared.headings.HeadingParts.{HeadingParts as CodeParts}
 use Rattle.pas_types.specs.declared.scopes.Inner.{Inner as CodeInner}
 use Rattle.pas_types.specs.declared.scopes.KnownRoutine.{KnownRoutine as CodeRoutine}
 use Rattle.pas_types.specs.declared.scopes.Scopes.{Scopes as CodeScopes}
 use Rattle.pas_types.specs.declared.stop.Stop.{Stop}
 use Rattle.pas_types.specs.Marks.{Marks, quiet, shows, joined, Judged}
-use Rattle.pas_types.specs.Scopes.{Entity, routine, Named, names, names_of, contains, KnownRoutine, Outer, Inner}
+use Rattle.pas_types.specs.Scopes.{routine, Named, names, names_of, contains, KnownRoutine, Outer, Inner}
 use Rattle.pas_types.specs.Scopes.{entity_in, names_inside, or_else, required}
-use Rattle.pas_types.specs.Declarations.{taken, named_slots, program_scopes, with_name}
+use Rattle.pas_types.specs.Declarations.{named_slots, program_scopes}
 use Rattle.pas_types.specs.Routines.{HeadingParts, Formal, HeadingStage, formals_of, result_part, missing_result}
 use Rattle.pas_types.specs.Routines.{new_inner, heading_by, with_routine, first_heading}
 use Rattle.pas_types.specs.NameViews.{with_new}
-use Rattle.pas_types.specs.ScopeViews.{outer_view, inner_view, scopes_view, routine_view, made_view, IsClear}
+use Rattle.pas_types.specs.ScopeViews.{outer_view, inner_view, routine_view, made_view, IsClear}
 use Rattle.pas_types.specs.inner.Answers.{FailsBy, IsQuiet}
 use Rattle.pas_types.specs.inner.Declared.{IsCounted}
-use Rattle.pas_types.specs.inner.Locals.{IsMeasured, IsWaiting, AreWaiting, IsLawful, IsWithin, Leaves}
-use Rattle.pas_types.specs.inner.RoutineAnswers.{parts_in, rest_words, parts_words, result_told, name_faults, PassesRest}
+use Rattle.pas_types.specs.inner.Locals.{IsMeasured, IsWaiting, AreWaiting, IsWithin}
+use Rattle.pas_types.specs.inner.RoutineAnswers.{parts_in, rest_words, parts_words, result_told, name_faults}
+use Rattle.pas_types.specs.inner.RoutineAnswers.{PassesRest}
 use Rattle.pas_types.specs.inner.RoutineAnswers.{PassesHeading, AddsRoutine, IsReady, awaited_at, Heads, sort_view}
-use Rattle.pas_types.proofs.AsMany.{next_word}
 use Rattle.pas_types.proofs.RoutinesAsMany.{rest_many}
 use Rattle.pas_types.proofs.SettleLemmas.{quiet_word, quiet_behind}
 use Rattle.pas_types.proofs.ConstantRowLemmas.{clear_push, free_in, view_is}

@@ -1,12 +1,12 @@
 -- Parameters of a routine: what is answered of them, by what is answered of their parts.
-use Rattle.std.proofs.Common.{◌≡◌, refl, sym, ap, subst, ◌∙◌, ℕ, ◌+◌, ◌<◌, ◌≤◌, Bool, true, false, List, [], ◌∷◌, ◌++◌}
-use Rattle.std.proofs.Common.{map, Option, Some, None, Result, Ok, Err, OnOk}
+use Rattle.std.proofs.Common.{◌≡◌, sym, ap, subst, ◌∙◌, ℕ, false, List, [], ◌∷◌, ◌++◌}
+use Rattle.std.proofs.Common.{Option, Some, None, Result, Ok, Err, OnOk}
 use Rattle.std.specs.Prelude.{is_some}
 use Rattle.pas_tokens.specs.Cutting.{Wrong}
 use Rattle.pas_tokens.specs.declared.kinds.Kind.TheVariants as k
 use Rattle.pas_syntax.specs.Tree as tree
 use Rattle.pas_syntax.specs.Tree.{Ident, Idents, Behind, TypeForm, Parameter, Parameters}
-use Rattle.pas_syntax.specs.Words.{Word, at, maybe, name_at, idents_words, parameter_words, parameters_words}
+use Rattle.pas_syntax.specs.Words.{Word, at, maybe, name_at, idents_words, parameter_words}
 use Rattle.pas_syntax.specs.Views.{ident_in, separated_in}
 use Rattle.pas_syntax.specs.ProgramViews.{parameter_in}
 use Rattle.pas_syntax.specs.declared.tree.Parameter.{Parameter as CodeParameter}
@@ -20,27 +20,25 @@ use Rattle.pas_types.specs.declared.judged.Judged.{Judged as CodeJudged}
 use Rattle.pas_types.specs.declared.scopes.Inner.{Inner as CodeInner}
 use Rattle.pas_types.specs.declared.scopes.Scopes.{Scopes as CodeScopes}
 use Rattle.pas_types.specs.declared.stop.Stop.{Stop}
-use Rattle.pas_types.specs.Marks.{Marks, no_token, quiet, joined, Judged, noted, known}
-use Rattle.pas_types.specs.Scopes.{Outer, Inner, names_of, names_inside, spellings_of, new_names}
+use Rattle.pas_types.specs.Marks.{Marks, quiet, joined, Judged, noted, known}
+use Rattle.pas_types.specs.Scopes.{names_of, names_inside, spellings_of, new_names}
 use Rattle.pas_types.specs.TypeForms.{maybe_quiet, type_named}
-use Rattle.pas_types.specs.Declarations.{local_only, with_locals, InnerStage}
-use Rattle.pas_types.specs.Routines.{mode_of, type_in_heading, Formal, parameter_of, formal_behind, more_formals}
-use Rattle.pas_types.specs.Routines.{no_formals, formals_of}
-use Rattle.pas_types.specs.ScopeViews.{outer_view, inner_view, scopes_view, made_view, IsClear}
-use Rattle.pas_types.specs.inner.Answers.{end_in, lawful_end, EndsAs, StopsBy, FailsBy, IsQuiet}
+use Rattle.pas_types.specs.Declarations.{local_only, with_locals}
+use Rattle.pas_types.specs.Routines.{mode_of, type_in_heading, Formal, parameter_of}
+use Rattle.pas_types.specs.ScopeViews.{outer_view, scopes_view, made_view, IsClear}
+use Rattle.pas_types.specs.inner.Answers.{end_in, EndsAs, StopsBy, FailsBy, IsQuiet}
 use Rattle.pas_types.specs.inner.NameAnswers.{AreNewNames, AreNew}
-use Rattle.pas_types.specs.inner.Locals.{IsWithin, Leaves}
+use Rattle.pas_types.specs.inner.Locals.{IsWithin}
 use Rattle.pas_types.specs.inner.RoutineAnswers.{PassesFormals}
-use Rattle.pas_types.proofs.AsMany.{AsMany, next_word, all, and_then, around, noted_many, new_names_many}
+use Rattle.pas_types.proofs.AsMany.{AsMany, next_word, all, noted_many}
 use Rattle.pas_types.proofs.TypesAsMany.{type_named_many}
-use Rattle.pas_types.proofs.RoutinesAsMany.{parameter_many}
 use Rattle.pas_types.proofs.AnswerLemmas.{made_ends, made_stops, noted_stops_by, stops_fails}
 use Rattle.pas_types.proofs.SettleLemmas.{quiet_word, quiet_alone, quiet_behind, nothing_shown}
-use Rattle.pas_types.proofs.CountedLemmas.{Longer, longer_same, IsMade}
+use Rattle.pas_types.proofs.CountedLemmas.{IsMade}
 use Rattle.pas_types.proofs.GlobalRowLemmas.{names_alone, fresh_alone}
 use Rattle.pas_types.proofs.LocalRowLemmas.{fails_front, fails_behind}
 use Rattle.pas_types.proofs.LocalRowsLemmas.{fails_alone}
-use Rattle.pas_types.proofs.WithinLemmas.{AddAnswers, Added, seen_inner, seen_scopes, seen_is, seen_clear, taken_is}
+use Rattle.pas_types.proofs.WithinLemmas.{AddAnswers, Added, seen_inner, seen_scopes, seen_is, taken_is}
 use Rattle.pas_types.proofs.WithinLemmas.{made_in, added_fails, added_quiet, added_leaves}
 
 -- a word that may stand there shows nothing
@@ -74,7 +72,8 @@ module _ (n : ℕ) (var : Option ℕ) (names : Idents) (colon_line : ℕ) (befor
   formal_names_fail why h =
       fails_behind (maybe n k.Var var) (idents_words n names ++ colon ∷ type_at) (maybe_quiet var)
       (joined (names_part ∷ quiet ∷ type_part ∷ [])) (maybe_still n var) why
-      (fails_front (idents_words n names) (colon ∷ type_at) names_part (joined (quiet ∷ type_part ∷ [])) type_many why h)
+      (fails_front (idents_words n names) (colon ∷ type_at) names_part (joined (quiet ∷ type_part ∷ [])) type_many why
+      h)
 
   module _ (still : IsQuiet (idents_words n names) names_part false) where
     formal_type_fails : (why : Stop) → FailsBy type_at type_part why → FailsBy formal_words formal_marks why

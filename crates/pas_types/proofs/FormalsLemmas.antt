@@ -14,7 +14,7 @@ use Rattle.pas_types.specs.Scopes.{Outer, Inner}
 use Rattle.pas_types.specs.Routines.{Formal, parameter_of, formal_behind, more_formals, no_formals, formals_of}
 use Rattle.pas_types.specs.ScopeViews.{outer_view, inner_view}
 use Rattle.pas_types.specs.inner.Answers.{FailsBy, IsQuiet}
-use Rattle.pas_types.specs.inner.Locals.{IsWithin, Leaves}
+use Rattle.pas_types.specs.inner.Locals.{IsWithin}
 use Rattle.pas_types.specs.inner.RoutineAnswers.{PassesFormals}
 use Rattle.pas_types.proofs.AsMany.{next_word, all}
 use Rattle.pas_types.proofs.RoutinesAsMany.{parameter_many}
@@ -234,7 +234,8 @@ module _ {X : Type 0} (view : X → Behind Parameter) (old : CodeScopes) (inner 
     pub formals_fail : (new : CodeScopes) (why : Stop) → FormalPasses next.item now new (Err why)
         → FailsBy all_formal_words all_marks why
     formals_fail new why passes =
-        let one : FailsBy (parameter_words 1 next.item) (parameter_of (outer_view old) before.inner next.item).marks why =
+        let one : FailsBy (parameter_words 1 next.item) (parameter_of (outer_view old) before.inner next.item).marks
+        why =
         formal_over old now new before_words before next.item (Err why) kept h passes in
         subst (λ (found : List (Behind Parameter)). FailsBy (parameter_words 1 first ++ more_words found)
         (more_formals (outer_view old) seen_first found).marks why) (sym split)
@@ -273,7 +274,7 @@ module _ (outer : Outer) (inner : Inner) (parameters : Parameters) where
   pub enclosed_passes : (new : CodeScopes) (result : Result (Unit {0}) Stop)
       → PassesFormals inside_words inside new result
       → PassesFormals (parameters_words parameters) (formals_of outer inner (Some parameters)) new result
-  enclosed_passes new (Ok done) h = (
+  enclosed_passes new (Ok found) h = (
     quiet_behind (opened ∷ []) (inside_words ++ closed ∷ []) quiet (joined (inside.marks ∷ quiet ∷ [])) false
         (quiet_word opened)
         (quiet_behind inside_words (closed ∷ []) inside.marks (joined (quiet ∷ [])) false h.0

@@ -1,5 +1,5 @@
 -- Headings of routines: what is answered of them, by what is answered of their parts.
-use Rattle.std.proofs.Common.{◌≡◌, refl, sym, ap, subst, ◌∙◌, ℕ, Bool, true, false, List, [], ◌∷◌, ◌++◌, map, length}
+use Rattle.std.proofs.Common.{◌≡◌, refl, sym, ap, subst, ◌∙◌, ℕ, Bool, true, false, List, [], ◌∷◌, ◌++◌}
 use Rattle.std.proofs.Common.{Option, Some, None, Result, Ok, Err}
 use Rattle.std.specs.Prelude.{option_map, is_some}
 use Rattle.wb_base.specs.declared.faults.TheConstants.{DUPLICATE_NAME, TOO_LARGE, WRONG_TYPE}
@@ -11,7 +11,7 @@ use Rattle.pas_typed.specs.declared.types.PasType.{PasType as CodePasType}
 use Rattle.pas_typed.specs.Types.{Made}
 use Rattle.pas_types.specs.declared.stop.Stop.{Stop}
 use Rattle.pas_types.specs.declared.stop.Stop.TheVariants as stop
-use Rattle.pas_types.specs.Marks.{Marks, quiet, shows, joined, unless, Judged, judged, checked, noted}
+use Rattle.pas_types.specs.Marks.{Marks, quiet, shows, joined, unless, Judged, judged, checked}
 use Rattle.pas_types.specs.inner.Ends.{shown_behind}
 use Rattle.pas_types.specs.inner.Answers.{Ending, EndsAs, FailsBy, IsQuiet, Means, Settles}
 use Rattle.pas_types.specs.declared.scopes.Inner.{Inner as CodeInner}
@@ -139,7 +139,8 @@ module _ (old now : CodeScopes) (inner : CodeInner) (sort : Sort) (parameters : 
 
   module _ (f : PassesFormals formals_words formals now (Ok tt)) (result : Result (Option CodePasType) Stop)
       (of_result : (one : CodeInner) → IsWithin one now → IsResult (given now.spellings.now)
-      (words_if result_words (given now.spellings.now)) (result_part (outer_view now) (inner_view now.spellings.now one) (given now.spellings.now)) (made_view now)
+      (words_if result_words (given now.spellings.now))
+      (result_part (outer_view now) (inner_view now.spellings.now one) (given now.spellings.now)) (made_view now)
       result) where
     pub result_is : IsResult result_there part_words part (made_view old) result
     result_is =
@@ -171,7 +172,8 @@ module _ (old now : CodeScopes) (inner : CodeInner) (sort : Sort) (parameters : 
 
       pub rest_passes : (holds : Bool) → missing ≡ unless holds (wrong WRONG_TYPE)
           → Ok tt ≡ demanded holds WRONG_TYPE line → part.value ≡ option_map (made_view old) found
-          → is_some found ≡ is_some result_there → PassesRest all_words formals result_there part missing (made_view old) now found
+          → is_some found ≡ is_some result_there
+          → PassesRest all_words formals result_there part missing (made_view old) now found
       rest_passes holds shown is value there = record {
         still = quiet_behind formals_words (part_words ++ semicolon ∷ []) formals.marks
             (joined (part.marks ∷ shows missing ∷ [])) false f.0

@@ -71,6 +71,8 @@ pub mod FormalsLemmas
 pub mod HeadingLemmas
 pub mod RoutineLemmas
 pub mod FirstHeadingLemmas
+pub mod SecondLemmas
+pub mod BlockLemmas
 pub mod GlobalRowLemmas
 pub mod AddedLemmas
 pub mod RowLemmas

@@ -1,9 +1,8 @@
 -- Words and scopes behind variables of one type that a routine declares.
-use Rattle.std.proofs.Common.{◌≡◌, ◌≢◌, refl, sym, ap, subst, ◌∙◌, ℕ, ◌+◌, suc, Bool, true, false, List, [], ◌∷◌}
-use Rattle.std.proofs.Common.{◌++◌, map, length, Option, Some, None, Result, Ok, Err, OnOk}
-use Rattle.std.proofs.lemmas.List.{append_assoc, append-nil, map-append}
-use Rattle.std.specs.Prelude.{⊤, option_map}
-use Rattle.wb_base.specs.declared.faults.Fault.{Fault}
+use Rattle.std.proofs.Common.{◌≡◌, ◌≢◌, refl, sym, ap, subst, ◌∙◌, ℕ, suc, false, List, [], ◌∷◌}
+use Rattle.std.proofs.Common.{◌++◌, map, length, Option, Some, None, Result, Err}
+use Rattle.std.proofs.lemmas.List.{append_assoc, append-nil}
+use Rattle.std.specs.Prelude.{option_map}
 use Rattle.wb_base.specs.declared.faults.TheConstants.{WRONG_TYPE}
 use Rattle.pas_tokens.specs.Cutting.{Wrong, wrong}
 use Rattle.pas_tokens.specs.declared.kinds.Kind.TheVariants as k
@@ -15,7 +14,7 @@ use Rattle.pas_typed.specs.declared.types.Structure.{Structure as CodeStructure}
 use Rattle.pas_typed.specs.declared.typed.Mode.{Mode as CodeMode}
 use Rattle.pas_typed.specs.declared.typed.Heading.{Heading as CodeHeading}
 use Rattle.pas_typed.specs.Types.{PasType, Table, Made}
-use Rattle.pas_typed.specs.Typed.{Mode, Variable, Home, local}
+use Rattle.pas_typed.specs.Typed.{Mode, Variable, local}
 use Rattle.pas_typed.specs.Shapes.{IsAmong}
 use Rattle.pas_typed.specs.TypeViews.{type_view, table_view, counted}
 use Rattle.pas_typed.specs.TypedViews.{mode_view, variable_view}
@@ -32,15 +31,15 @@ use Rattle.pas_types.specs.ScopeViews.{outer_view, inner_view, scopes_view, IsCl
 use Rattle.pas_types.specs.inner.Answers.{Ending, EndsAs, FailsBy, IsQuiet, ShowsBy}
 use Rattle.pas_types.specs.inner.Ends.{shown_behind}
 use Rattle.pas_types.specs.inner.NameAnswers.{AreNew}
-use Rattle.pas_types.specs.inner.Declared.{AreThere, AreTyped, IsCounted}
-use Rattle.pas_types.specs.inner.Locals.{with_local, with_all, IsMeasured, IsWaiting, IsWaitingIf, AreWaiting}
+use Rattle.pas_types.specs.inner.Declared.{AreThere, AreTyped}
+use Rattle.pas_types.specs.inner.Locals.{with_all, IsMeasured, IsWaitingIf, AreWaiting}
 use Rattle.pas_types.specs.inner.Locals.{IsLawful, IsWithin}
 use Rattle.pas_types.proofs.AsMany.{AsMany, next_word, before_word, noted_many}
 use Rattle.pas_types.proofs.SettleLemmas.{quiet_word, quiet_alone, quiet_behind, shows_front, shows_behind}
 use Rattle.pas_types.proofs.ConstantRowLemmas.{clear_behind}
 use Rattle.pas_types.proofs.DeclaredLemmas.{entity_push}
-use Rattle.pas_types.proofs.CountedLemmas.{Longer, longer_length, all_there_more, there_append, typed_more, typed_append}
-use Rattle.pas_types.proofs.CountedLemmas.{counted_longer, together_longer}
+use Rattle.pas_types.proofs.CountedLemmas.{Longer, longer_length, all_there_more, there_append, typed_more}
+use Rattle.pas_types.proofs.CountedLemmas.{typed_append, counted_longer, together_longer}
 use Rattle.pas_types.proofs.AddedLemmas.{seen}
 use Rattle.pas_types.proofs.GlobalLemmas.{AreKnown}
 use Rattle.pas_types.proofs.LocalLemmas.{all_view, all_cells}

@@ -1,24 +1,22 @@
 -- Variables that a routine declares, one row behind another.
 use Rattle.std.proofs.Common.{◌≡◌, refl, sym, ap, subst, ◌∙◌, ℕ, ◌+◌, ◌<◌, ◌≤◌, false, List, [], ◌∷◌, ◌++◌, map, length}
-use Rattle.std.proofs.Common.{take, drop, get_or, Option, Some, Result, Ok, Err}
+use Rattle.std.proofs.Common.{take, drop, get_or, Some, Result, Ok, Err}
 use Rattle.std.specs.Prelude.{flat_map}
 use Rattle.std.proofs.lemmas.List.{append_assoc, append-nil, map-append, take_more, take_all, take-append-drop}
 use Rattle.pas_tokens.specs.declared.kinds.Kind.TheVariants as k
 use Rattle.pas_syntax.specs.Tree.{VariableRow, Rows}
 use Rattle.pas_syntax.specs.Words.{Word, at, variable_row_words, rows_words}
 use Rattle.pas_typed.specs.Types.{Table}
-use Rattle.pas_typed.specs.TypeViews.{table_view}
 use Rattle.pas_types.specs.declared.scopes.Inner.{Inner as CodeInner}
 use Rattle.pas_types.specs.declared.scopes.Scopes.{Scopes as CodeScopes}
 use Rattle.pas_types.specs.declared.stop.Stop.{Stop}
-use Rattle.pas_types.specs.declared.stop.Stop.TheVariants as stop
-use Rattle.pas_types.specs.Marks.{Marks, no_token, quiet, joined}
+use Rattle.pas_types.specs.Marks.{Marks, quiet, joined}
 use Rattle.pas_types.specs.Scopes.{Outer, Inner}
 use Rattle.pas_types.specs.Declarations.{InnerStage, local_row, more_local_rows, local_rows}
 use Rattle.pas_types.specs.ScopeViews.{outer_view, inner_view}
 use Rattle.pas_types.specs.inner.Answers.{FailsBy, IsQuiet}
-use Rattle.pas_types.specs.inner.Locals.{IsWithin, Leaves, Passes}
-use Rattle.pas_types.proofs.AsMany.{AsMany, all}
+use Rattle.pas_types.specs.inner.Locals.{IsWithin, Passes}
+use Rattle.pas_types.proofs.AsMany.{all}
 use Rattle.pas_types.proofs.DeclarationsAsMany.{more_local_many}
 use Rattle.pas_types.proofs.SettleLemmas.{quiet_word, quiet_alone, quiet_behind, nothing_shown}
 use Rattle.pas_types.proofs.LocalRowLemmas.{fails_front, fails_behind}

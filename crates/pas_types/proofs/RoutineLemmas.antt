@@ -1,20 +1,17 @@
 -- Routines that are known, and the scopes that wait for their bodies.
 use Rattle.std.proofs.Common.{◌≡◌, refl, sym, ap, subst, ◌∙◌, ℕ, zero, suc, ◌+◌, arith, Bool, true, false, List, []}
-use Rattle.std.proofs.Common.{◌∷◌, ◌++◌, map, length, Option, Some, None, IsSome}
-use Rattle.std.proofs.lemmas.List.{append_assoc, append-nil, map-append, length-map}
-use Rattle.std.specs.Prelude.{option_map, option_and_then, slice_get, is_some, ◌&&◌}
-use Rattle.wb_base.specs.declared.faults.TheConstants.{WRONG_TYPE}
-use Rattle.pas_tokens.specs.Cutting.{wrong}
+use Rattle.std.proofs.Common.{◌∷◌, ◌++◌, length, Option, Some, None}
+use Rattle.std.specs.Prelude.{option_map, slice_get, is_some, ◌&&◌}
 use Rattle.pas_syntax.specs.Tree as tree
 use Rattle.pas_syntax.specs.Tree.{Behind, TypeName, Parameter, Parameters}
 use Rattle.pas_typed.specs.Types.{PasType, Table, Made}
-use Rattle.pas_typed.specs.Typed.{Mode, Variable, Heading, local}
+use Rattle.pas_typed.specs.Typed.{Mode, Variable, local}
 use Rattle.pas_types.specs.declared.scopes.Inner.{Inner as CodeInner}
 use Rattle.pas_types.specs.declared.scopes.KnownRoutine.{KnownRoutine as CodeRoutine}
 use Rattle.pas_types.specs.Marks.{Marks, no_token, quiet, known}
 use Rattle.pas_types.specs.Scopes.{Named, Outer, Inner, spellings_of}
 use Rattle.pas_types.specs.Declarations.{named_slots, variables_of, with_locals}
-use Rattle.pas_types.specs.Routines.{Sort, procedure, function, Formal, parameter_of, formal_behind, more_formals}
+use Rattle.pas_types.specs.Routines.{Sort, procedure, function, Formal, formal_behind, more_formals}
 use Rattle.pas_types.specs.Routines.{no_formals, formals_of, missing_result, heading_by, new_inner, mode_of}
 use Rattle.pas_types.specs.Routines.{type_in_heading}
 use Rattle.pas_types.specs.inner.Locals.{IsWaiting, IsWaitingIf, AreWaiting}
@@ -22,7 +19,8 @@ use Rattle.pas_types.specs.inner.RoutineAnswers.{awaited_at, result_told}
 
 -- variables as names, of which more come behind
 slots_append : (n : ℕ) (variables more : List Variable)
-    → named_slots local n (variables ++ more) ≡ named_slots local n variables ++ named_slots local (n + length variables) more
+    → named_slots local n (variables ++ more)
+    ≡ named_slots local n variables ++ named_slots local (n + length variables) more
 slots_append n [] more = ap (λ (m : ℕ). named_slots local m more) (omega arith)
 slots_append n (first ∷ variables) more =
     let start : List Named = named_slots local n (first ∷ []) in

@@ -114,7 +114,7 @@ first_heading_many outer word head line =
     (next_word (name_at 0 head.name) faults (joined (formals.marks ∷ result ∷ missing ∷ []))
     (rest_many outer (new_inner number []) formals.inner head line (missing_result head.sort head.result)))
 
-second_heading_many : (outer : Outer) (word : Word) (head : HeadingParts) (number line : ℕ)
+pub second_heading_many : (outer : Outer) (word : Word) (head : HeadingParts) (number line : ℕ)
     → AsMany (parts_words word head line) (second_heading outer head number).marks
 second_heading_many outer word head number line =
     let formals : Formal = formals_of outer (new_inner number []) head.parameters in

@@ -1,12 +1,12 @@
 -- Variables of one type that a routine declares: what is answered of them, by what is answered of their parts.
-use Rattle.std.proofs.Common.{◌≡◌, refl, sym, ap, subst, ◌∙◌, ℕ, false, List, [], ◌∷◌, ◌++◌, map, length}
+use Rattle.std.proofs.Common.{◌≡◌, sym, ap, subst, ◌∙◌, ℕ, false, List, [], ◌++◌, map, length}
 use Rattle.std.proofs.Common.{Option, Some, Result, Ok, Err, OnOk}
 use Rattle.std.specs.Prelude.{option_map}
 use Rattle.pas_tokens.specs.Cutting.{Wrong}
-use Rattle.pas_syntax.specs.Tree.{Idents, TypeForm, VariableRow}
+use Rattle.pas_syntax.specs.Tree.{TypeForm, VariableRow}
 use Rattle.pas_syntax.specs.Words.{Word, idents_words, type_words, variable_row_words}
 use Rattle.pas_syntax.specs.Views.{ident_in, separated_in}
-use Rattle.pas_syntax.specs.ProgramViews.{type_in, variable_row_in}
+use Rattle.pas_syntax.specs.ProgramViews.{variable_row_in}
 use Rattle.pas_syntax.specs.declared.tree.Ident.{Ident as CodeIdent}
 use Rattle.pas_syntax.specs.declared.tree.Separated.{Separated as CodeSeparated}
 use Rattle.pas_syntax.specs.declared.tree.VariableRow.{VariableRow as CodeRow}
@@ -14,8 +14,8 @@ use Rattle.pas_typed.specs.declared.types.PasType.{PasType as CodePasType}
 use Rattle.pas_typed.specs.declared.types.Structure.{Structure as CodeStructure}
 use Rattle.pas_typed.specs.declared.typed.Mode.{Mode as CodeMode}
 use Rattle.pas_typed.specs.declared.typed.Mode.TheVariants as code_mode
-use Rattle.pas_typed.specs.Types.{PasType, Table, Made}
-use Rattle.pas_typed.specs.Typed.{declared, Variable}
+use Rattle.pas_typed.specs.Types.{Made}
+use Rattle.pas_typed.specs.Typed.{declared}
 use Rattle.pas_typed.specs.Shapes.{IsAmong}
 use Rattle.pas_typed.specs.TypeViews.{type_view, table_view, counted}
 use Rattle.pas_typed.specs.TypedViews.{mode_view, variable_view}
@@ -29,7 +29,7 @@ use Rattle.pas_types.specs.TypeForms.{form_of}
 use Rattle.pas_types.specs.Declarations.{variables_of, cells_together, local_only, with_locals, routine_scopes}
 use Rattle.pas_types.specs.Declarations.{InnerStage, local_row, types_behind}
 use Rattle.pas_types.specs.ScopeViews.{outer_view, inner_view, scopes_view, made_view, all_idents, IsClear, Agrees}
-use Rattle.pas_types.specs.inner.Answers.{end_in, EndsAs, StopsBy, FailsBy, IsQuiet, Means, ShowsBy, Settles}
+use Rattle.pas_types.specs.inner.Answers.{end_in, EndsAs, StopsBy, FailsBy, IsQuiet, Settles}
 use Rattle.pas_types.specs.inner.NameAnswers.{AreNewNames, AreNew}
 use Rattle.pas_types.specs.inner.Locals.{with_all, IsMeasured, IsWithin, Leaves, Passes}
 use Rattle.pas_types.proofs.AsMany.{AsMany}
@@ -206,67 +206,68 @@ module _ (old : CodeScopes) (inner : CodeInner) (row : CodeRow) where
         row_names_fail found_row (names_of inner.names) row_demand form many why (names_in (Err why) answer 0)
 
     module _ (free : AreNewNames (names_of (names_inside (scopes_view old).inner) ++ before) found_row.names (Ok tt))
-        where
-      still : IsQuiet (idents_words 0 found_row.names) (new_names (names_of inner.names) found_row.names) false
-      still = names_in (Ok tt) free 0
+      where
+        still : IsQuiet (idents_words 0 found_row.names) (new_names (names_of inner.names) found_row.names) false
+        still = names_in (Ok tt) free 0
 
-      pub form_fails : (why : Stop)
-          → (IsClear (seen_scopes old inner) → StopsBy (type_words 0 found_row.form) form why)
-          → FailsBy row_words row_stage.marks why
-      form_fails why stops =
-          row_type_fails found_row (names_of inner.names) row_demand form many still why
-          (stops_fails (type_words 0 found_row.form) (noted row_demand form) why
-          (noted_stops_by (type_words 0 found_row.form) row_demand form why (stops (seen_clear old inner h))))
-
-      module _ (made : CodeJudged CodePasType) (now : CodeScopes) (kept : now ≡ record old { types = now.types })
-          (ends : EndsAs (type_words 0 found_row.form) form (made_view now made.value) (end_in made.end)) where
-        there_made : EndsAs (type_words 0 found_row.form) form
-            (made_view (record old { types = now.types }) made.value) (end_in made.end)
-        there_made =
-            subst (λ (scopes : CodeScopes). EndsAs (type_words 0 found_row.form) form
-            (made_view scopes made.value) (end_in made.end)) kept ends
-
-        is_made : IsMade (outer_view old).types (Some (made_view (record old { types = now.types }) made.value))
-        is_made =
-            made_in old inner h found_row.form (made_view (record old { types = now.types }) made.value)
-            there_made.known
-
-        pub add_fails : (why : Stop) → AddAnswers now row.names code_mode.Declared made (Err why)
-            → (end_in made.end).is_short ≡ false → FailsBy row_words row_stage.marks why
-        add_fails why answers whole =
+        pub form_fails : (why : Stop)
+            → (IsClear (seen_scopes old inner) → StopsBy (type_words 0 found_row.form) form why)
+            → FailsBy row_words row_stage.marks why
+        form_fails why stops =
             row_type_fails found_row (names_of inner.names) row_demand form many still why
-            (added_fails old inner h row.names code_mode.Declared made now.types is_made.0 is_made.1
-            (type_words 0 found_row.form) form why
-            (subst (λ (scopes : CodeScopes). AddAnswers scopes row.names code_mode.Declared made (Err why)) kept answers)
-            there_made whole)
+            (stops_fails (type_words 0 found_row.form) (noted row_demand form) why
+            (noted_stops_by (type_words 0 found_row.form) row_demand form why (stops (seen_clear old inner h))))
 
-        pub row_passes : (new : CodeScopes) → new ≡ record now { inner = new.inner }
-            → AddAnswers now row.names code_mode.Declared made (Ok tt)
-            → Added now row.names code_mode.Declared made new
-            → AreNew (names_of (names_inside (scopes_view old).inner) ++ before) row_spelled
-            → IsQuiet row_words row_stage.marks false × Leaves row_stage new
-        row_passes new stays answers added fresh = (
-          row_quiet found_row (names_of inner.names) row_demand form many still
-              (added_quiet old inner h row.names code_mode.Declared made now.types is_made.0 is_made.1
-              (type_words 0 found_row.form) form
-              (subst (λ (scopes : CodeScopes). AddAnswers scopes row.names code_mode.Declared made (Ok tt)) kept
+        module _ (made : CodeJudged CodePasType) (now : CodeScopes) (kept : now ≡ record old { types = now.types })
+            (ends : EndsAs (type_words 0 found_row.form) form (made_view now made.value) (end_in made.end)) where
+          there_made : EndsAs (type_words 0 found_row.form) form
+              (made_view (record old { types = now.types }) made.value) (end_in made.end)
+          there_made =
+              subst (λ (scopes : CodeScopes). EndsAs (type_words 0 found_row.form) form
+              (made_view scopes made.value) (end_in made.end)) kept ends
+
+          is_made : IsMade (outer_view old).types (Some (made_view (record old { types = now.types }) made.value))
+          is_made =
+              made_in old inner h found_row.form (made_view (record old { types = now.types }) made.value)
+              there_made.known
+
+          pub add_fails : (why : Stop) → AddAnswers now row.names code_mode.Declared made (Err why)
+              → (end_in made.end).is_short ≡ false → FailsBy row_words row_stage.marks why
+          add_fails why answers whole =
+              row_type_fails found_row (names_of inner.names) row_demand form many still why
+              (added_fails old inner h row.names code_mode.Declared made now.types is_made.0 is_made.1
+              (type_words 0 found_row.form) form why
+              (subst (λ (scopes : CodeScopes). AddAnswers scopes row.names code_mode.Declared made (Err why)) kept
               answers)
-              there_made),
-          added_leaves old inner h row.names code_mode.Declared made now.types is_made.0 is_made.1 new
-              (stays ∙ ap (λ (scopes : CodeScopes). record scopes { inner = new.inner }) kept)
-              (subst (λ (scopes : CodeScopes). Added scopes row.names code_mode.Declared made new) kept added)
-              (subst (λ (taken : List (List ℕ)). AreNew taken row_spelled) (taken_is old inner h)
-              (fresh_alone (names_of (names_inside (scopes_view old).inner)) before row_spelled (Ok tt) none fresh))
-              row_stage
-              (ap (types_behind (outer_view old).types) there_made.known)
-              (ap (λ (value : Option Made). with_locals declared row_spelled (known (λ what. what.type) value)
-              (seen_inner old inner)) there_made.known),
-        )
+              there_made whole)
 
-        pub row_returns : (new : CodeScopes) → new ≡ record now { inner = new.inner }
-            → (result : Result (Unit {0}) Stop) → AddAnswers now row.names code_mode.Declared made result
-            → OnOk result (Added now row.names code_mode.Declared made new) → (end_in made.end).is_short ≡ false
-            → AreNew (names_of (names_inside (scopes_view old).inner) ++ before) row_spelled
-            → Passes row_words row_stage new result
-        row_returns new stays (Ok done) answers added whole fresh = row_passes new stays answers added fresh
-        row_returns new stays (Err why) answers added whole fresh = add_fails why answers whole
+          pub row_passes : (new : CodeScopes) → new ≡ record now { inner = new.inner }
+              → AddAnswers now row.names code_mode.Declared made (Ok tt)
+              → Added now row.names code_mode.Declared made new
+              → AreNew (names_of (names_inside (scopes_view old).inner) ++ before) row_spelled
+              → IsQuiet row_words row_stage.marks false × Leaves row_stage new
+          row_passes new stays answers added fresh = (
+            row_quiet found_row (names_of inner.names) row_demand form many still
+                (added_quiet old inner h row.names code_mode.Declared made now.types is_made.0 is_made.1
+                (type_words 0 found_row.form) form
+                (subst (λ (scopes : CodeScopes). AddAnswers scopes row.names code_mode.Declared made (Ok tt)) kept
+                answers)
+                there_made),
+            added_leaves old inner h row.names code_mode.Declared made now.types is_made.0 is_made.1 new
+                (stays ∙ ap (λ (scopes : CodeScopes). record scopes { inner = new.inner }) kept)
+                (subst (λ (scopes : CodeScopes). Added scopes row.names code_mode.Declared made new) kept added)
+                (subst (λ (taken : List (List ℕ)). AreNew taken row_spelled) (taken_is old inner h)
+                (fresh_alone (names_of (names_inside (scopes_view old).inner)) before row_spelled (Ok tt) none fresh))
+                row_stage
+                (ap (types_behind (outer_view old).types) there_made.known)
+                (ap (λ (value : Option Made). with_locals declared row_spelled (known (λ what. what.type) value)
+                (seen_inner old inner)) there_made.known),
+          )
+
+          pub row_returns : (new : CodeScopes) → new ≡ record now { inner = new.inner }
+              → (result : Result (Unit {0}) Stop) → AddAnswers now row.names code_mode.Declared made result
+              → OnOk result (Added now row.names code_mode.Declared made new) → (end_in made.end).is_short ≡ false
+              → AreNew (names_of (names_inside (scopes_view old).inner) ++ before) row_spelled
+              → Passes row_words row_stage new result
+          row_returns new stays (Ok done) answers added whole fresh = row_passes new stays answers added fresh
+          row_returns new stays (Err why) answers added whole fresh = add_fails why answers whole

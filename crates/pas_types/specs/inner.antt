@@ -19,3 +19,4 @@ pub mod Transfers
 pub mod Listed
 pub mod Locals
 pub mod RoutineAnswers
+pub mod BlockAnswers

@@ -1,11 +1,11 @@
 //! Headings of routines (ISO 7185, 6.6, in this project's profile).
-ghost use Rattle.std.specs.Prelude.{◌≡◌, ◌∷◌, [], ℕ, List, Some, None, option_map, IfOk, OnOk, OnErr};
+ghost use Rattle.std.specs.Prelude.{◌≡◌, ◌∷◌, [], ℕ, List, Some, None, option_map, IfOk, OnOk, OnErr, IfSome, IsSome};
 ghost use Rattle.std.specs.Option.{option_copied};
 ghost use Rattle.pas_syntax.specs.Views.{spelled_in, ident_in, behind_in, if_there};
 ghost use Rattle.pas_syntax.specs.ProgramViews.{parameter_in, parameters_in, type_name_in, heading_in};
 ghost use Rattle.pas_syntax.specs.Words.{Word, name_at, words_if, parameter_words, parameters_words, result_words};
 ghost use Rattle.pas_typed.specs.TypeViews.{type_view};
-ghost use Rattle.pas_typed.specs.TypedViews.{mode_view};
+ghost use Rattle.pas_typed.specs.TypedViews.{mode_view, heading_view};
 ghost use Rattle.wb_base.specs.declared.faults.TheConstants.{WRONG_TYPE};
 ghost use Rattle.pas_tokens.specs.Cutting.{wrong};
 ghost use Rattle.pas_types.specs.Marks.{unless, checked};
@@ -17,7 +17,7 @@ ghost use Rattle.pas_types.specs.ScopeViews.{outer_view, inner_view, made_view};
 ghost use Rattle.pas_types.specs.inner.Locals.{IsWithin};
 ghost use Rattle.pas_types.specs.inner.RoutineAnswers.{sort_view, parts_in, rest_words, PassesFormals, IsOrdinal};
 ghost use Rattle.pas_types.specs.inner.RoutineAnswers.{IsResult, IsNewRoutine, PassesHeading, result_told, AddsRoutine};
-ghost use Rattle.pas_types.specs.inner.RoutineAnswers.{IsReady, HeadsBy, parts_words};
+ghost use Rattle.pas_types.specs.inner.RoutineAnswers.{IsReady, HeadsBy, parts_words, IsSecond, awaited_at};
 
 use crate::limits::ROUTINE_LIMIT;
 use crate::locals::add_locals;
@@ -26,7 +26,7 @@ use crate::names::Entity;
 use crate::new_names::{Region, new_alone, new_names};
 use crate::scopes::{Inner, KnownRoutine, Scopes};
 use crate::simple_types::type_named;
-use crate::stop::{Stop, count_of, demand};
+use crate::stop::{Stop, count_of, demand, fault};
 use pas_syntax::tree::{Behind, Heading, Ident, Parameter, Parameters, Routine};
 use pas_typed::typed::{Heading as TypedHeading, Mode};
 use pas_typed::types::PasType;
@@ -77,10 +77,7 @@ pub(crate) fn head_of(routine: &Routine) -> HeadingParts<'_>
 }
 
 // Declares the routine of a first heading, and tells its number.
-pub(crate) fn first_heading(
-    scopes: &mut Scopes<'_>,
-    head: HeadingParts<'_>,
-) -> Result<u32, Stop>
+pub(crate) fn first_heading(scopes: &mut Scopes<'_>, head: HeadingParts<'_>) -> Result<u32, Stop>
     ensures heads { (word : Word) → IsReady scopes.old → HeadsBy
         (parts_words word (parts_in scopes.old.spellings.now head.entry) head.entry.end)
         (spec.first_heading (outer_view scopes.old) (parts_in scopes.old.spellings.now head.entry)) scopes.new
@@ -99,6 +96,59 @@ pub(crate) fn first_heading(
     let found = behind_name(scopes, head)?;
     add_routine(scopes, head.name, number, told_result(head.sort, found))?;
     Ok(number)
+}
+
+// Refuses more than the name in a heading behind its forward heading.
+pub(crate) fn second_heading(scopes: &Scopes<'_>, head: HeadingParts<'_>) -> Result<(), Stop>
+    ensures { (word : Word) (number : ℕ) → IsSecond
+        (parts_words word (parts_in scopes.now.spellings.now head.entry) head.entry.end)
+        (spec.second_heading (outer_view scopes.now) (parts_in scopes.now.spellings.now head.entry) number).marks
+        result }
+{
+    match (head.parameters, head.result) {
+        (Some(parameters), _) => Err(fault(WRONG_TYPE, parameters.opened)),
+        (None, Some(result)) => Err(fault(WRONG_TYPE, result.line)),
+        (None, None) => Ok(()),
+    }
+}
+
+// The number of the routine of this sort that the name of a heading stands for, if its body is still to come.
+pub(crate) fn awaited(scopes: &Scopes<'_>, head: HeadingParts<'_>) -> Option<u32>
+    ensures number { result
+        ≡ spec.awaited (outer_view scopes.now) (parts_in scopes.now.spellings.now head.entry) }
+    ensures waits { IfSome result (λ number. IsSome (awaited_at scopes.now.routines.items number)) }
+{
+    match scopes.names.get(scopes.spelling(head.name.span)) {
+        Some(Entity::Routine(number)) => awaited_routine(scopes, head.sort, number),
+        _ => None,
+    }
+}
+
+// The number of a routine of this sort, if its body is still to come.
+fn awaited_routine(scopes: &Scopes<'_>, sort: Sort, number: u32) -> Option<u32>
+    ensures number { result ≡ spec.awaited_by (outer_view scopes.now) (sort_view sort) (name.routine number) }
+    ensures waits { IfSome result (λ found. IsSome (awaited_at scopes.now.routines.items found)) }
+{
+    match scopes.routines.get(number as usize) {
+        Some(known) => {
+            if known.awaited.is_some() && is_of_sort(sort, &known.heading) {
+                Some(number)
+            } else {
+                None
+            }
+        }
+        None => None,
+    }
+}
+
+// Whether a heading is one of this sort.
+fn is_of_sort(sort: Sort, heading: &TypedHeading) -> bool
+    ensures { (spellings : List ℕ) → result ≡ spec.is_of_sort (sort_view sort) (heading_view spellings heading.now) }
+{
+    match sort {
+        Sort::Procedure => heading.result.is_none(),
+        Sort::Function => heading.result.is_some(),
+    }
 }
 
 // What a heading of this sort tells of its result.
@@ -186,10 +236,7 @@ fn tells_result(head: HeadingParts<'_>) -> bool
 }
 
 // The type of the result of a function, if one is given.
-fn result_of(
-    scopes: &Scopes<'_>,
-    given: Option<Behind<Ident>>,
-) -> Result<Option<PasType>, Stop>
+fn result_of(scopes: &Scopes<'_>, given: Option<Behind<Ident>>) -> Result<Option<PasType>, Stop>
     ensures { (inner : CodeInner) → IsWithin inner scopes.now → IsResult
         (if_there (behind_in (type_name_in scopes.now.spellings.now)) given)
         (words_if result_words (if_there (behind_in (type_name_in scopes.now.spellings.now)) given))

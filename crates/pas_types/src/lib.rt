@@ -2,6 +2,7 @@
 #![tactic(auto)]
 
 mod assignments;
+mod blocks;
 mod calls;
 mod cases;
 mod checking;

@@ -1,5 +1,5 @@
 -- What functions that look at routines answer.
-use Rattle.std.specs.Prelude.{◌≡◌, false, true, ⊤, List, [], ◌∷◌, ◌++◌, ℕ, map, length, Option, Some, None, Result, Ok}
+use Rattle.std.specs.Prelude.{◌≡◌, false, true, List, [], ◌∷◌, ◌++◌, ℕ, map, length, Option, Some, None, Result, Ok}
 use Rattle.std.specs.Prelude.{Err, IsSome, is_some, nat_lt, not, option_map, option_and_then, slice_get}
 use Rattle.std.specs.Option.{option_copied}
 use Rattle.wb_base.specs.declared.faults.Fault.{Fault}
@@ -27,7 +27,6 @@ use Rattle.pas_types.specs.Marks.{Marks, shows, joined, unless, Judged}
 use Rattle.pas_types.specs.Scopes.{routine, Outer, contains, entity_in}
 use Rattle.pas_types.specs.Declarations.{taken}
 use Rattle.pas_types.specs.Routines.{Sort, procedure, function, HeadingParts, Formal, HeadingStage, RoutineStage}
-use Rattle.pas_types.specs.Routines.{formals_of, result_part, missing_result}
 use Rattle.pas_types.specs.Check.{parameter_faults}
 use Rattle.pas_types.specs.NameViews.{with_new}
 use Rattle.pas_types.specs.ScopeViews.{outer_view, scopes_view, IsClear}
@@ -100,7 +99,8 @@ pub record PassesRest (words : List Word) (formals : Formal) (given : Option (Be
   pub is_clear : formals.is_clear ≡ true
   pub result_is : part.value ≡ option_map view found
   pub is_given : is_some found ≡ is_some given
-  pub leaves : Leaves (record { marks = formals.marks; table = (outer_view scopes).types; inner = formals.inner }) scopes
+  pub leaves :
+      Leaves (record { marks = formals.marks; table = (outer_view scopes).types; inner = formals.inner }) scopes
 
 abbrev pub PassesHeading : List Word → Formal → Option (Behind TypeName) → Judged Made → List Wrong
     → (CodePasType → Made) → CodeScopes → Result (Option CodePasType) Stop → Type 0
@@ -141,6 +141,11 @@ pub record Heads (words : List Word) (stage : HeadingStage) (scopes : CodeScopes
 abbrev pub HeadsBy : List Word → HeadingStage → CodeScopes → Result ℕ Stop → Type 0
 HeadsBy words stage scopes (Ok number) = Heads words stage scopes number
 HeadsBy words stage scopes (Err why) = FailsBy words stage.marks why
+
+-- what is answered of a heading behind its forward heading
+abbrev pub IsSecond : List Word → Marks → Result (Unit {0}) Stop → Type 0
+IsSecond words marks (Ok done) = IsQuiet words marks false
+IsSecond words marks (Err why) = FailsBy words marks why
 
 -- each name shows the same in both scopes where it is a parameter of the program
 abbrev pub ServesAs : Outer → Outer → Type 0

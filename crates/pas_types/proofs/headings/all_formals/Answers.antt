@@ -96,7 +96,8 @@ returns-in_err-formal_of-2-clause-passes c inner h =
     (enclosed_passes outer seen_inner parameters new (Err why)
     (subst (λ (more : List (CodeBehind CodeParameter)). FailsBy
     (parameter_words 1 first ++ more_words (map (behind_in (parameter_in spellings)) more))
-    (more_formals outer (first_formal outer seen_inner first) (map (behind_in (parameter_in spellings)) more)).marks why)
+    (more_formals outer (first_formal outer seen_inner first) (map (behind_in (parameter_in spellings)) more)).marks
+    why)
     c.as_slice-behind-items.ensures
     (formals_fail (behind_in (parameter_in spellings)) old inner first c.as_slice-behind-items.result.now
     c.loop-behind.behind-index now c.loop-behind.invariant.kept (c.loop-behind.invariant.passes inner h) next

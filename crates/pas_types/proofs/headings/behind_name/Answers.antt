@@ -1,4 +1,4 @@
-use Rattle.std.proofs.Common.{◌≡◌, refl, sym, ◌∙◌, ℕ, List, Option, Ok, Err}
+use Rattle.std.proofs.Common.{sym, ◌∙◌, ℕ, List, Option, Ok, Err}
 use Rattle.std.specs.Option.{option_copied}
 use Rattle.std.proofs.lemmas.Result.{err_from_is_err_and}
 use Rattle.pas_syntax.specs.Tree.{Behind, TypeName, Parameters}

@@ -1,7 +1,6 @@
-use Rattle.std.proofs.Common.{◌≡◌, ap, subst, ◌∙◌, length, Some, Ok, Err}
+use Rattle.std.proofs.Common.{Ok, Err}
 use Rattle.std.proofs.lemmas.Result.{err_from_is_err_and}
 use Rattle.pas_types.specs.declared.scopes.Scopes.{Scopes as CodeScopes}
-use Rattle.pas_types.specs.Scopes.{Outer}
 use Rattle.pas_types.specs.Routines.{HeadingParts, first_heading}
 use Rattle.pas_types.specs.ScopeViews.{outer_view}
 use Rattle.pas_types.specs.inner.RoutineAnswers.{parts_in, parts_words, HeadsBy}

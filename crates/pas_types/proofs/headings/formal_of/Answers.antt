@@ -1,4 +1,4 @@
-use Rattle.std.proofs.Common.{sym, ap, ◌∙◌}
+use Rattle.std.proofs.Common.{ap}
 use Rattle.std.proofs.lemmas.Result.{err_from_is_err_and}
 use Rattle.pas_types.specs.declared.scopes.Scopes.{Scopes as CodeScopes}
 use Rattle.pas_types.specs.inner.Answers.{Ending}

@@ -1,4 +1,4 @@
-use Rattle.std.proofs.Common.{List, ◌∷◌, [], Some, Err}
+use Rattle.std.proofs.Common.{List, ◌∷◌, [], Some}
 use Rattle.std.proofs.lemmas.Result.{err_from_is_err_and}
 use Rattle.pas_syntax.specs.Tree.{Ident}
 use Rattle.pas_syntax.specs.Views.{ident_in, behind_in, if_there}
@@ -23,7 +23,8 @@ returns-in_err-result_type-in-Some c inner h =
     let words : List Word = name_at 0 ident ∷ [] in
     let part : Judged Made = checked ordinal_result (part_in old inner ident) in
     rw c.in-Some.is
-    (stopped (IsResult (if_there (behind_in (type_name_in spellings)) (Some c.in-Some.behind)) (words_if result_words (if_there (behind_in (type_name_in spellings)) (Some c.in-Some.behind)))
+    (stopped (IsResult (if_there (behind_in (type_name_in spellings)) (Some c.in-Some.behind))
+    (words_if result_words (if_there (behind_in (type_name_in spellings)) (Some c.in-Some.behind)))
     (result_part (outer_view old) (inner_view spellings inner)
     (if_there (behind_in (type_name_in spellings)) (Some c.in-Some.behind))) (made_view old))
     c.in_err-result_type-in-Some.field-0.0 c.from_residual.result (err_from_is_err_and _ c.from_residual.ensures.1)
@@ -37,6 +38,6 @@ returns-in_ok-result_type-in-Some c inner h =
     let words : List Word = name_at 0 ident ∷ [] in
     let part : Judged Made = checked ordinal_result (part_in old inner ident) in
     rw c.in-Some.is
-    (result_means c.in-Some.behind.line words part (made_view old) (type_name_in old.spellings.now c.in-Some.behind.item)
-    c.in_ok-result_type-in-Some.field-0
+    (result_means c.in-Some.behind.line words part (made_view old)
+    (type_name_in old.spellings.now c.in-Some.behind.item) c.in_ok-result_type-in-Some.field-0
     (c.in_ok-result_type-in-Some.ensures inner h))

@@ -19,7 +19,8 @@ pub returns-in_err-made-clause-passes : goal.returns-in_err-made-clause-passes
 returns-in_err-made-clause-passes c inner h =
     let old : CodeScopes = c.args.scopes.now in
     stopped (Passes (variable_row_words (found_row old inner c.args.row.now)) (row_stage old inner c.args.row.now) _)
-    c.in_err-made.field-0.0 c.from_residual-in_err-made.result (err_from_is_err_and _ c.from_residual-in_err-made.ensures.1)
+    c.in_err-made.field-0.0 c.from_residual-in_err-made.result
+    (err_from_is_err_and _ c.from_residual-in_err-made.ensures.1)
     (form_fails old inner c.args.row.now h c.new-before.result c.new-before.ensures c.in_ok-new_names.ensures.answer
     c.in_err-made.field-0.0
     (c.in_err-made.ensures.answers (seen_scopes old inner) (seen_agrees old inner h) 0))
