@@ -13,3 +13,7 @@ pub mod ValueLemmas
 pub mod TestLemmas
 pub mod PlaceLemmas
 pub mod SelectorLemmas
+pub mod CopyLemmas
+pub mod ArgumentLemmas
+pub mod OpenLemmas
+pub mod CallLemmas

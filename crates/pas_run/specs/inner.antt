@@ -4,3 +4,6 @@ pub mod MachineState
 pub mod Doings
 pub mod Scenes
 pub mod Evaluating
+pub mod Running
+pub mod Copying
+pub mod Calling

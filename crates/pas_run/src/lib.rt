@@ -1,8 +1,11 @@
 //! Runs Pascal programs.
 #![tactic(auto)]
 
+mod arguments;
 mod arithmetic;
+mod calls;
 mod cells;
+mod copies;
 mod ends;
 mod files;
 mod layouts;
@@ -12,6 +15,7 @@ mod places;
 mod refusals;
 mod selectors;
 mod spots;
+mod statements;
 mod values;
 
 pub use files::{Ahead, FileState, RunFile, Usage};

@@ -2,7 +2,6 @@
 ghost use Rattle.std.specs.Prelude.{◌≡◌, false, ◌+◌, ◌*◌, ℕ, List, Some, map, take, sum_by};
 ghost use Rattle.pas_typed.specs.Types as types;
 ghost use Rattle.pas_typed.specs.Typed as typed;
-ghost use Rattle.pas_typed.specs.TypeOf.{is_buffer};
 ghost use Rattle.pas_typed.specs.TypeViews.{range_view, type_view, field_view, counted};
 ghost use Rattle.pas_typed.specs.TypedViews.{value_view, part_view, place_view, program_view};
 ghost use Rattle.pas_meaning.specs.Run as meaning;
@@ -10,7 +9,7 @@ ghost use Rattle.pas_meaning.specs.Store as store;
 ghost use Rattle.pas_meaning.specs.Operands as operands;
 ghost use Rattle.pas_run.specs.inner.MachineState.{CountFailures};
 ghost use Rattle.pas_run.specs.inner.Doings.{Same, Answers, is_port_failed};
-ghost use Rattle.pas_run.specs.inner.Evaluating.{Locates, Selects, IsCount, IsElement, IsSlot};
+ghost use Rattle.pas_run.specs.inner.Evaluating.{Locates, LocatesPart, Selects, IsCount, IsElement, IsSlot};
 
 use crate::arithmetic::in_range;
 use crate::ends::Stop;
@@ -38,15 +37,20 @@ impl<P: Port> Machine<P> {
             let slot = file_below(place)?;
             Ok(Spot::Window(slot, place.pas_type()))
         } else {
-            self.part_at(scene, place, levels)
+            let behind = self.part_at(scene, place, levels)?;
+            Ok(Spot::Part(place.slot, behind))
         }
     }
 
-    // Where a part of a variable is, by its selectors one after another. A buffer is none.
+    // Behind how many cells of its variable a part begins, by its selectors one after another. A buffer is none.
     #[cycle(running)]
-    fn part_at(&mut self, scene: Scene<'_>, place: &Place, levels: u32) -> Result<Spot, Stop>
-        ensures does { is_buffer (place_view place.now) ≡ false
-            → Locates scene.entry (place_view place.now) self.old self.new result }
+    pub(crate) fn part_at(
+        &mut self,
+        scene: Scene<'_>,
+        place: &Place,
+        levels: u32,
+    ) -> Result<u32, Stop>
+        ensures does { LocatesPart scene.entry place.now.slot (place_view place.now) self.old self.new result }
         ensures cause { CountFailures (is_port_failed result) self.old.files self.new.files }
     {
         let mut behind = 0;
@@ -55,7 +59,7 @@ impl<P: Port> Machine<P> {
             behind = self.behind_part(scene, whole, behind, part, levels)?;
             whole = part.pas_type();
         }
-        Ok(Spot::Part(place.slot, behind))
+        Ok(behind)
     }
 
     // Behind how many cells of a variable a part begins of what begins behind so many.
@@ -157,7 +161,7 @@ fn cells_of_all(scene: Scene<'_>, fields: &[Field]) -> u64
 }
 
 // So many cells behind others, unless they are more than a machine has.
-fn behind_cells(behind: u32, cells: u64) -> Result<u32, Stop>
+pub(crate) fn behind_cells(behind: u32, cells: u64) -> Result<u32, Stop>
     ensures count { (exact : ℕ) → counted exact ≡ cells → IsCount (behind + exact) result }
     ensures quiet { is_port_failed result ≡ false }
 {

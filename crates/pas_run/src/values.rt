@@ -1,7 +1,7 @@
 //! The values of expressions.
 ghost use Rattle.std.specs.Prelude.{◌≡◌, ◌<◌, ℕ, length, false};
 ghost use Rattle.pas_typed.specs.Typed as typed;
-ghost use Rattle.pas_typed.specs.TypedViews.{file_test_view, function_view, value_view, call_view, place_view};
+ghost use Rattle.pas_typed.specs.TypedViews.{file_test_view, function_view, value_view, place_view};
 ghost use Rattle.pas_meaning.specs.Arithmetic as spec;
 ghost use Rattle.pas_meaning.specs.Answers.{fine};
 ghost use Rattle.pas_meaning.specs.Run as meaning;
@@ -19,7 +19,7 @@ use crate::machine::Machine;
 use crate::spots::fits;
 use pas_meaning::WRONG_MODE;
 use pas_syntax::{Adding, Multiplying, Relation, Sign};
-use pas_typed::typed::{Call, FileTest, Function, Place, Slot, Value};
+use pas_typed::typed::{FileTest, Function, Place, Slot, Value};
 use pas_typed::types::{Base, PasType};
 use wb_ports::Port;
 
@@ -306,14 +306,6 @@ impl<P: Port> Machine<P> {
     {
         let spot = self.spot_at(scene, place, levels)?;
         self.read_at(scene, place.pas_type(), spot)
-    }
-
-    // What the call of a function answers.
-    fn function_result(&mut self, scene: Scene<'_>, call: &Call, levels: u32) -> Result<i32, Stop>
-        ensures does { Evaluates scene.entry (call_view call.now) self.old self.new result }
-        ensures cause { CountFailures (is_port_failed result) self.old.files self.new.files }
-    {
-        Err(Stop::OutOfMemory)
     }
 }
 

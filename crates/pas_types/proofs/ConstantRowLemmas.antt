@@ -31,7 +31,7 @@ use Rattle.pas_types.proofs.TypesAsMany.{constant_many}
 use Rattle.pas_types.proofs.SettleLemmas.{quiet_word, quiet_alone}
 use Rattle.pas_types.proofs.SubrangeLemmas.{constant_agrees}
 use Rattle.pas_types.proofs.DeclaredLemmas.{entity_push, pushed_alike, notes_behind, notes_quiet}
-use Rattle.pas_types.proofs.CountedLemmas.{counted_name, constant_there}
+use Rattle.pas_types.proofs.CountedLemmas.{counted_name, constant_there, constant_held}
 
 -- scopes that stand for a scope of the program
 module _ (outer : Outer) (old : CodeScopes) where
@@ -106,7 +106,7 @@ clear_by : (b : Bool) (last : Named) (outside : Option Entity) → last.entity �
 clear_by true last outside known clear is = known cc
 clear_by false last outside known clear is = clear is
 
-clear_behind : (inside : Option Entity) (last : Named) (name : List ℕ) (outside : Option Entity)
+pub clear_behind : (inside : Option Entity) (last : Named) (name : List ℕ) (outside : Option Entity)
     → last.entity ≢ unclear → or_else inside outside ≢ Some unclear
     → or_else (or_else inside (entity_in (last ∷ []) name)) outside ≢ Some unclear
 clear_behind None last name outside known clear = clear_by (bytes_eq last.name name) last outside known clear
@@ -237,7 +237,7 @@ module _ (old new : CodeScopes) (row : ConstantRow) (first : Result (Unit {0}) S
           let value : Option ConstantValue = (value_in (program_scopes outer)).value in
           subst (IsCounted (constant_row outer row).outer) (sym (ap (λ (scopes : CodeScopes). scopes.cells) is))
           (counted_name outer old.cells (names row.name.name (constant_meant value))
-          (constant_there (length outer.types) value) h.is_counted);
+          (constant_there (length outer.types) value) (constant_held (length outer.types) value) h.is_counted);
     };
     notes = λ outer h. row_notes outer h.alone noted one two noted_is notes h.outer_is;
   }

@@ -11,7 +11,7 @@ use Rattle.pas_syntax.specs.Parse.{left_out}
 use Rattle.pas_syntax.specs.Tree as tree
 use Rattle.pas_syntax.specs.Tree.{Behind, Simple, TypeForm, Fields}
 use Rattle.pas_typed.specs.Types.{PasType, Range, Structure, Table, array, fields, file, subrange, Made, made}
-use Rattle.pas_typed.specs.Types.{cells_of}
+use Rattle.pas_typed.specs.Types.{TableRow, cells_in, cells_of}
 use Rattle.pas_typed.specs.Typed.{Mode, declared, by_value, by_name, Variable}
 use Rattle.pas_typed.specs.Shapes.{IsAmong}
 use Rattle.pas_typed.proofs.CountLemmas.{counted-add, counted-mul}
@@ -19,14 +19,15 @@ use Rattle.pas_typed.proofs.LongerTables.{IsAmong-more, IsAmong-made, cells_of-a
 use Rattle.pas_types.specs.Marks.{Marks, quiet, no_token, Judged, known, both, checked, checked_by, kept_by, refuses}
 use Rattle.pas_types.specs.Scopes.{Entity, constant, type, variable, routine, function, file_test, file_step}
 use Rattle.pas_types.specs.Scopes.{procedure, unclear, Named, Scopes, entity_in, entity_of, required, or_else}
-use Rattle.pas_types.specs.Scopes.{spellings_of, names, Outer}
+use Rattle.pas_types.specs.Scopes.{spellings_of, names, Outer, Inner}
 use Rattle.pas_types.specs.TypeForms.{ConstantValue, as_type, simple_of, constant_of}
 use Rattle.pas_types.specs.TypeForms.{range_between, fits_below, Indexes, Group, index_only, one_more, with_index}
 use Rattle.pas_types.specs.TypeForms.{no_indexes, table_of_indexes, more_indexes, indexes_of, arrays, with_fields}
 use Rattle.pas_types.specs.TypeForms.{no_fields, table_of_fields, form_of, groups_of}
 use Rattle.pas_types.specs.Declarations.{cells_of_variable, cells_together, program_scopes, with_name, types_behind}
-use Rattle.pas_types.specs.Declarations.{variables_of}
-use Rattle.pas_types.specs.inner.Declared.{IsThere, AreThere, AreTyped, IsCounted, constant_meant}
+use Rattle.pas_types.specs.Declarations.{variables_of, routine_scopes}
+use Rattle.pas_types.specs.inner.Declared.{IsThere, AreThere, AreTyped, IsHeld, AreHeld, IsFiled, AreFiled}
+use Rattle.pas_types.specs.inner.Declared.{IsCounted, constant_meant}
 use Rattle.pas_typed.specs.TypeViews.{counted}
 
 -- more rows
@@ -60,6 +61,43 @@ pub typed_append : (rows : ℕ) (found more : List Variable) → AreTyped rows f
     → AreTyped rows (found ++ more)
 typed_append rows [] more h k = k
 typed_append rows (first ∷ found) more h k = (h.0, typed_append rows found more h.1 k)
+
+pub held_more : (rows most : ℕ) (entity : Entity) → rows ≤ most → IsHeld rows entity → IsHeld most entity
+held_more rows most (variable slot) less h = IsAmong-more rows most slot.type less h
+held_more rows most (type found) less h = tt
+held_more rows most (constant base value) less h = tt
+held_more rows most (routine number) less h = tt
+held_more rows most (function found) less h = tt
+held_more rows most (file_test test) less h = tt
+held_more rows most (file_step step) less h = tt
+held_more rows most (procedure found) less h = tt
+held_more rows most unclear less h = tt
+
+pub all_held_more : (rows most : ℕ) (found : List Named) → rows ≤ most → AreHeld rows found → AreHeld most found
+all_held_more rows most [] less h = tt
+all_held_more rows most (named ∷ found) less h =
+    (held_more rows most named.entity less h.0, all_held_more rows most found less h.1)
+
+pub held_append : (rows : ℕ) (found more : List Named) → AreHeld rows found → AreHeld rows more
+    → AreHeld rows (found ++ more)
+held_append rows [] more h k = k
+held_append rows (named ∷ found) more h k = (h.0, held_append rows found more h.1 k)
+
+filed_more : (rows most : ℕ) (structure : Structure) → rows ≤ most → IsFiled rows structure → IsFiled most structure
+filed_more rows most (file component) less h = IsAmong-more rows most component less h
+filed_more rows most (subrange range) less h = tt
+filed_more rows most (array indexes element) less h = tt
+filed_more rows most (fields found) less h = tt
+
+all_filed_more : (rows most : ℕ) (table : Table) → rows ≤ most → AreFiled rows table → AreFiled most table
+all_filed_more rows most [] less h = tt
+all_filed_more rows most (found ∷ table) less h =
+    (filed_more rows most found.structure less h.0, all_filed_more rows most table less h.1)
+
+filed_append : (rows : ℕ) (table more : Table) → AreFiled rows table → AreFiled rows more
+    → AreFiled rows (table ++ more)
+filed_append rows [] more h k = k
+filed_append rows (found ∷ table) more h k = (h.0, filed_append rows table more h.1 k)
 
 -- cells stay as many
 cells_stay : (table more : Table) (mode : Mode) (found : PasType) → IsAmong (length table) found
@@ -150,25 +188,38 @@ named_more rows most s less h = record {
   each = λ name. there_if_more rows most (entity_of s name) less (h.each name);
 }
 
--- a table that begins with another one
+-- a table that begins with another one, and of which the files have components among the rows if those of that have
 pub record Longer (table later : Table) : Type 0 where
   pub more : Table
   pub is : later ≡ table ++ more
+  pub filed : AreFiled (length table) table → AreFiled (length later) later
 
 pub longer_same : (table : Table) → Longer table table
-longer_same table = record { more = []; is = sym (append-nil table) }
+longer_same table = record { more = []; is = sym (append-nil table); filed = λ h. h }
 
 pub longer_on : (table now later : Table) → Longer table now → Longer now later → Longer table later
 longer_on table now later h k = record {
   more = h.more ++ k.more;
   is = k.is ∙ (ap (λ (t : Table). t ++ k.more) h.is ∙ append_assoc table h.more k.more);
+  filed = λ files. k.filed (h.filed files);
 }
 
 pub longer_length : (table later : Table) → Longer table later → length table ≤ length later
 longer_length table later h = omega (arith, ap length h.is, length-append table h.more)
 
-longer_made : (table : Table) (structure : Structure) → Longer table (made table structure).table
-longer_made table structure = record { more = _; is = refl }
+longer_made : (table : Table) (structure : Structure) → IsFiled (length table) structure
+    → Longer table (made table structure).table
+longer_made table structure h =
+    let row : TableRow = record { structure = structure; cells = cells_in table structure } in
+    let less : length table ≤ length (table ++ row ∷ []) = omega (arith, length-append table (row ∷ [])) in
+    record {
+      more = row ∷ [];
+      is = refl;
+      filed = λ files.
+          filed_append (length (table ++ row ∷ [])) table (row ∷ [])
+          (all_filed_more (length table) (length (table ++ row ∷ [])) table less files)
+          (filed_more (length table) (length (table ++ row ∷ [])) structure less h, tt);
+    }
 
 -- what a part makes behind a table
 abbrev pub IsMade : Table → Option Made → Type 0
@@ -187,8 +238,9 @@ made_on : (table now : Table) (found : Option Made) → Longer table now → IsM
 made_on table now None h k = tt
 made_on table now (Some found) h k = (longer_on table now found.table h k.0, k.1)
 
-made_new : (table : Table) (structure : Structure) → IsMade table (Some (made table structure))
-made_new table structure = (longer_made table structure, IsAmong-made table structure)
+made_new : (table : Table) (structure : Structure) → IsFiled (length table) structure
+    → IsMade table (Some (made table structure))
+made_new table structure h = (longer_made table structure h, IsAmong-made table structure)
 
 checked_made : (table : Table) (faults : Made → List Wrong) (marks : Marks) (found : Option Made) → IsMade table found
     → IsMade table (checked_by faults marks found).value
@@ -223,7 +275,7 @@ named_made table name (Some unclear) h = tt
 range_made : (table : Table) (range : Option Range)
     → IsMade table (known (λ range. made table (subrange range)) range)
 range_made table None = tt
-range_made table (Some range) = made_new table (subrange range)
+range_made table (Some range) = made_new table (subrange range) tt
 
 simple_made : (s : Scopes) (table : Table) → AreNamed (length table) s → (form : Simple)
     → IsMade table (simple_of s table form).value
@@ -280,7 +332,7 @@ arrays_made table [] element h = (longer_same table, h)
 arrays_made table (range ∷ ranges) element h =
     let inner : Made = arrays table ranges element in
     made_on table inner.table (Some (made inner.table (array range inner.type)))
-    (arrays_made table ranges element h).0 (made_new inner.table (array range inner.type))
+    (arrays_made table ranges element h).0 (made_new inner.table (array range inner.type) tt)
 
 array_made : (table : Table) (indexes : Option Indexes) (element : Option Made) → IsIndexed table indexes
     → IsMade (unwrap_or (option_map (λ found. found.table) indexes) table) element
@@ -296,14 +348,15 @@ file_made : (table : Table) (component : Option Made) → IsMade table component
     → IsMade table (known (λ found. made found.table (file found.type)) component)
 file_made table None h = tt
 file_made table (Some found) h =
-    made_on table found.table (Some (made found.table (file found.type))) h.0 (made_new found.table (file found.type))
+    made_on table found.table (Some (made found.table (file found.type))) h.0
+    (made_new found.table (file found.type) h.1)
 
 record_made : (table : Table) (group : Option Group) → IsGrouped table group
     → IsMade table (known (λ found. made found.table (fields found.fields)) group)
 record_made table None h = tt
 record_made table (Some found) h =
     made_on table found.table (Some (made found.table (fields found.fields))) h
-    (made_new found.table (fields found.fields))
+    (made_new found.table (fields found.fields) tt)
 
 group_made : (table : Table) (names : List (List ℕ)) (before : Option Group) (form : Option Made)
     → IsGrouped table before → IsMade (unwrap_or (option_map (λ found. found.table) before) table) form
@@ -354,15 +407,28 @@ named_outer outer h = record {
       (there_in (length outer.types) required name (required_there (length outer.types)));
 }
 
+-- scopes of a routine
+pub named_routine : (rows : ℕ) (outer : Outer) (inner : Inner) → AreThere rows outer.names → AreThere rows inner.names
+    → AreNamed rows (routine_scopes outer inner)
+named_routine rows outer inner h k = record {
+  each = λ name. there_or rows (entity_in inner.names name)
+      (or_else (entity_in outer.names name) (entity_in required name)) (there_in rows inner.names name k)
+      (there_or rows (entity_in outer.names name) (entity_in required name) (there_in rows outer.names name h)
+      (there_in rows required name (required_there rows)));
+}
+
 pub together_longer : (table later : Table) (variables : List Variable) → Longer table later
     → AreTyped (length table) variables → cells_together later variables ≡ cells_together table variables
 together_longer table later variables h k =
     ap (λ (t : Table). cells_together t variables) h.is ∙ together_stay table h.more variables k
 
 pub counted_name : (outer : Outer) (cells : ℕ) (named : Named) → IsThere (length outer.types) named.entity
+    → IsHeld (length outer.types) named.entity
     → IsCounted outer cells → IsCounted (record outer { names = outer.names ++ named ∷ [] }) cells
-counted_name outer cells named there h = record {
+counted_name outer cells named there held h = record {
   names = there_append (length outer.types) outer.names (named ∷ []) h.names (there, tt);
+  slots = held_append (length outer.types) outer.names (named ∷ []) h.slots (held, tt);
+  files = h.files;
   globals = h.globals;
   cells_are = h.cells_are;
 }
@@ -371,6 +437,10 @@ pub constant_there : (rows : ℕ) (value : Option ConstantValue) → IsThere row
 constant_there rows None = tt
 constant_there rows (Some value) = tt
 
+pub constant_held : (rows : ℕ) (value : Option ConstantValue) → IsHeld rows (constant_meant value)
+constant_held rows None = tt
+constant_held rows (Some value) = tt
+
 -- a longer table
 pub counted_longer : (outer : Outer) (cells : ℕ) (later : Table) → Longer outer.types later → IsCounted outer cells
     → IsCounted (record outer { types = later }) cells
@@ -378,6 +448,8 @@ counted_longer outer cells later longer h =
     let less = longer_length outer.types later longer in
     record {
       names = all_there_more (length outer.types) (length later) outer.names less h.names;
+      slots = all_held_more (length outer.types) (length later) outer.names less h.slots;
+      files = longer.filed h.files;
       globals = typed_more (length outer.types) (length later) outer.globals less h.globals;
       cells_are = h.cells_are ∙ ap counted (sym (together_longer outer.types later outer.globals longer h.globals));
     }
@@ -386,9 +458,9 @@ pub counted_type : (outer : Outer) (cells : ℕ) (name : List ℕ) (found : Opti
     → IsCounted outer cells
     → IsCounted (with_name name (known (λ what. type what.type) found)
     (record outer { types = types_behind outer.types found })) cells
-counted_type outer cells name None made h = counted_name outer cells (names name unclear) tt h
+counted_type outer cells name None made h = counted_name outer cells (names name unclear) tt tt h
 counted_type outer cells name (Some found) made h =
-    counted_name (record outer { types = found.table }) cells (names name (type found.type)) made.1
+    counted_name (record outer { types = found.table }) cells (names name (type found.type)) made.1 tt
     (counted_longer outer cells found.table made.0 h)
 
 -- how many cells variables of one type have

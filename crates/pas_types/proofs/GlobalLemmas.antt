@@ -30,7 +30,7 @@ use Rattle.pas_types.specs.inner.Answers.{end_in, EndsAs}
 use Rattle.pas_types.specs.inner.FormAnswers.{FoundIf, first_told}
 use Rattle.pas_types.specs.inner.NameAnswers.{AreNewNames, AreNew}
 use Rattle.pas_types.specs.inner.Declared.{first_noted, IsAlike, IsOuter, Notes, NotesIf, AreThere, AreTyped}
-use Rattle.pas_types.specs.inner.Declared.{IsCounted, IsDeclared, IsLike, Declares, global_form, with_each}
+use Rattle.pas_types.specs.inner.Declared.{AreHeld, IsCounted, IsDeclared, IsLike, Declares, global_form, with_each}
 use Rattle.pas_types.proofs.AsMany.{next_word, before_word, noted_many}
 use Rattle.pas_types.proofs.TypesAsMany.{form_many}
 use Rattle.pas_types.proofs.SettleLemmas.{quiet_word, quiet_alone}
@@ -38,7 +38,7 @@ use Rattle.pas_types.proofs.EndLemmas.{last_of_both}
 use Rattle.pas_types.proofs.AnswerLemmas.{noted_stops_by}
 use Rattle.pas_types.proofs.DeclaredLemmas.{pushed_alike, notes_behind, notes_quiet}
 use Rattle.pas_types.proofs.ConstantRowLemmas.{alike_of, agrees_of, free_in, notes_clear, none_before, clear_push}
-use Rattle.pas_types.proofs.CountedLemmas.{IsMade, form_made, named_outer, there_append, typed_append}
+use Rattle.pas_types.proofs.CountedLemmas.{IsMade, form_made, named_outer, there_append, held_append, typed_append}
 use Rattle.pas_types.proofs.CountedLemmas.{counted_longer, together_with}
 
 -- two demands on a part are noted as one
@@ -130,11 +130,11 @@ each_same outer (first ∷ more) h =
     ∙ (each_same next more (subst (λ (found : List (List ℕ)). AreNew found (names_of more)) behind h.1)
     ∙ append_assoc outer.names (first ∷ []) more)
 
-abbrev AreKnown : List Named → Type 0
+abbrev pub AreKnown : List Named → Type 0
 AreKnown [] = ⊤
 AreKnown (named ∷ found) = (named.entity ≢ unclear) × AreKnown found
 
-clear_each : (outer : Outer) (more : List Named) → AreKnown more → IsClear (program_scopes outer)
+pub clear_each : (outer : Outer) (more : List Named) → AreKnown more → IsClear (program_scopes outer)
     → IsClear (program_scopes (record outer { names = outer.names ++ more }))
 clear_each outer [] known h =
     subst (λ (found : List Named). IsClear (program_scopes (record outer { names = found })))
@@ -146,26 +146,35 @@ clear_each outer (first ∷ more) known h =
     (clear_push outer first h known.0))
 
 -- variables as names
-slots_known : (home : Home) (n : ℕ) (variables : List Variable) → AreKnown (named_slots home n variables)
+pub slots_known : (home : Home) (n : ℕ) (variables : List Variable) → AreKnown (named_slots home n variables)
 slots_known home n [] = tt
 slots_known home n (first ∷ variables) = ((λ is. cc), slots_known home (suc n) variables)
 
-slots_there : (rows : ℕ) (home : Home) (n : ℕ) (variables : List Variable)
+pub slots_there : (rows : ℕ) (home : Home) (n : ℕ) (variables : List Variable)
     → AreThere rows (named_slots home n variables)
 slots_there rows home n [] = tt
 slots_there rows home n (first ∷ variables) = (tt, slots_there rows home (suc n) variables)
+
+pub slots_held : (rows : ℕ) (home : Home) (n : ℕ) (variables : List Variable) → AreTyped rows variables
+    → AreHeld rows (named_slots home n variables)
+slots_held rows home n [] h = tt
+slots_held rows home n (first ∷ variables) h = (h.0, slots_held rows home (suc n) variables h.1)
+
+unclear_held : (rows : ℕ) (spellings : List (List ℕ)) → AreHeld rows (unclear_names spellings)
+unclear_held rows [] = tt
+unclear_held rows (name ∷ spellings) = (tt, unclear_held rows spellings)
 
 unclear_there : (rows : ℕ) (spellings : List (List ℕ)) → AreThere rows (unclear_names spellings)
 unclear_there rows [] = tt
 unclear_there rows (name ∷ spellings) = (tt, unclear_there rows spellings)
 
-slots_names : (home : Home) (n : ℕ) (found : PasType) (spellings : List (List ℕ))
+pub slots_names : (home : Home) (n : ℕ) (found : PasType) (spellings : List (List ℕ))
     → names_of (named_slots home n (variables_of declared found spellings)) ≡ spellings
 slots_names home n found [] = refl
 slots_names home n found (name ∷ spellings) =
     ap (λ (rest : List (List ℕ)). name ∷ rest) (slots_names home (suc n) found spellings)
 
-variables_typed : (rows : ℕ) (found : PasType) → IsAmong rows found → (spellings : List (List ℕ))
+pub variables_typed : (rows : ℕ) (found : PasType) → IsAmong rows found → (spellings : List (List ℕ))
     → AreTyped rows (variables_of declared found spellings)
 variables_typed rows found h [] = tt
 variables_typed rows found h (name ∷ spellings) = (h, variables_typed rows found h spellings)
@@ -316,6 +325,9 @@ module _ (old new : CodeScopes) (spellings : List (List ℕ)) where
     added_counted None adds made = record {
       names = there_append (length outer.types) outer.names (unclear_names spellings) like.is_counted.names
           (unclear_there (length outer.types) spellings);
+      slots = held_append (length outer.types) outer.names (unclear_names spellings) like.is_counted.slots
+          (unclear_held (length outer.types) spellings);
+      files = like.is_counted.files;
       globals = like.is_counted.globals;
       cells_are = adds.2 ∙ like.is_counted.cells_are;
     }
@@ -328,6 +340,11 @@ module _ (old new : CodeScopes) (spellings : List (List ℕ)) where
           names = there_append (length new_table) outer.names
               (named_slots global (length outer.globals) variables) there.names
               (slots_there (length new_table) global (length outer.globals) variables);
+          slots = held_append (length new_table) outer.names
+              (named_slots global (length outer.globals) variables) there.slots
+              (slots_held (length new_table) global (length outer.globals) variables
+              (variables_typed (length new_table) (type_view found) made.1 spellings));
+          files = there.files;
           globals = typed_append (length new_table) outer.globals variables there.globals
               (variables_typed (length new_table) (type_view found) made.1 spellings);
           cells_are = adds.2 each refl

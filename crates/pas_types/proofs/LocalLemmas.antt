@@ -156,6 +156,10 @@ module _ (spellings : List ℕ) (mode : CodeMode) (type : CodePasType) where
   all_others [] inner = refl
   all_others (first ∷ idents) inner = all_others idents (with_local spellings mode type inner first)
 
+  pub all_cells : (idents : List CodeIdent) (inner : CodeInner)
+      → (with_all spellings mode type idents inner).cells ≡ inner.cells
+  all_cells idents inner = ap (λ (found : CodeInner). found.cells) (all_others idents inner)
+
   slot_names : (n : ℕ) (names : List (List ℕ)) → names_of (named_slots local n (made_of names)) ≡ names
   slot_names n [] = refl
   slot_names n (name ∷ names) = ap (λ (rest : List (List ℕ)). name ∷ rest) (slot_names (suc n) names)

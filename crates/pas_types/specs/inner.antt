@@ -9,6 +9,7 @@ pub mod TypeAnswers
 pub mod FlowViews
 pub mod TargetViews
 pub mod CaseViews
+pub mod Checking
 pub mod Arguments
 pub mod ExpressionAnswers
 pub mod NameAnswers
@@ -17,3 +18,5 @@ pub mod Declared
 pub mod Transfers
 pub mod Listed
 pub mod Locals
+pub mod RoutineAnswers
+pub mod BlockAnswers

@@ -2,14 +2,17 @@
 #![tactic(auto)]
 
 mod assignments;
+mod blocks;
 mod calls;
 mod cases;
+mod checking;
 mod constants;
 mod declarations;
 mod expressions;
 mod flow;
 mod functions;
 mod globals;
+mod headings;
 mod judged;
 mod labels;
 mod limits;
@@ -21,6 +24,7 @@ mod new_names;
 mod noting;
 mod probe;
 mod results;
+mod routines;
 mod scopes;
 mod simple_types;
 mod statements;

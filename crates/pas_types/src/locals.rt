@@ -1,8 +1,10 @@
 //! Declarations of a routine's parameters and variables (ISO 7185, 6.5 and 6.6, in this project's profile).
 ghost use Rattle.std.specs.Prelude.{◌≡◌, ℕ, false, IfOk, List, ◌++◌, ◌||◌, map, is_none, Some, option_map, OnOk};
-ghost use Rattle.pas_syntax.specs.Words.{Word, type_words};
-ghost use Rattle.pas_syntax.specs.ProgramViews.{type_in};
-ghost use Rattle.pas_syntax.specs.Views.{ident_in, separated_in};
+ghost use Rattle.std.specs.Option.{option_copied};
+ghost use Rattle.pas_tokens.specs.declared.kinds.Kind.TheVariants as k;
+ghost use Rattle.pas_syntax.specs.Words.{Word, words_if, type_words, variable_row_words, rows_words};
+ghost use Rattle.pas_syntax.specs.ProgramViews.{type_in, variable_row_in, rows_in};
+ghost use Rattle.pas_syntax.specs.Views.{ident_in, separated_in, if_there};
 ghost use Rattle.pas_typed.specs.Types.{Made, component_of};
 ghost use Rattle.pas_typed.specs.TypeViews.{type_view, table_view, counted};
 ghost use Rattle.pas_typed.specs.TypedViews.{mode_view, variable_view};
@@ -12,23 +14,82 @@ ghost use Rattle.pas_types.specs.Declarations as spec;
 ghost use Rattle.pas_types.specs.declared.scopes.Inner.{Inner};
 ghost use Rattle.pas_types.specs.Scopes.{Scopes as SpecScopes};
 ghost use Rattle.pas_types.specs.TypeForms.{form_of};
-ghost use Rattle.pas_types.specs.ScopeViews.{scopes_view, made_view, inner_view, all_idents, IsClear, Agrees};
+ghost use Rattle.pas_types.specs.ScopeViews.{outer_view, scopes_view, made_view, inner_view, all_idents};
+ghost use Rattle.pas_types.specs.ScopeViews.{IsClear, Agrees};
+ghost use Rattle.pas_types.specs.inner.FormAnswers.{Grows};
 ghost use Rattle.pas_types.specs.inner.TypeAnswers.{AnswersIf};
 ghost use Rattle.pas_types.specs.inner.Answers.{end_in, EndsAs, Settles};
-ghost use Rattle.pas_types.specs.inner.Locals.{with_local, with_all, with_count, told};
+ghost use Rattle.pas_types.specs.inner.Locals.{with_local, with_all, with_count, told, IsWithin, Passes};
 
 use crate::globals::with_cells;
 use crate::judged::Judged;
 use crate::limits::ROUTINE_CELL_LIMIT;
+use crate::name_sets::NameSet;
 use crate::names::Entity;
+use crate::new_names::{Region, new_names};
 use crate::scopes::Scopes;
 use crate::stop::{Stop, count_of};
 use crate::type_forms::form_of;
-use pas_syntax::tree::{Ident, Idents, TypeForm};
+use pas_syntax::tree::{Ident, Idents, Rows, TypeForm, VariableRow};
 use pas_typed::typed::{Home, Mode, Slot, Variable};
 use pas_typed::types::PasType;
 use wb_base::faults::{FILE_RULE, TOO_LARGE};
 use wb_base::{Fault, OutOfMemory};
+
+// Declares variables of a routine.
+pub(crate) fn locals_of(
+    scopes: &mut Scopes<'_>,
+    rows: Option<&Rows<VariableRow>>,
+) -> Result<(), Stop>
+    ensures passes { (inner : Inner) → IsWithin inner scopes.old → Passes
+        (words_if (rows_words k.Var variable_row_words)
+        (if_there (rows_in scopes.old.spellings.now (variable_row_in scopes.old.spellings.now))
+        (option_copied rows.entry)))
+        (spec.local_rows (outer_view scopes.old) (inner_view scopes.old.spellings.now inner)
+        (if_there (rows_in scopes.old.spellings.now (variable_row_in scopes.old.spellings.now))
+        (option_copied rows.entry))) scopes.new result }
+    ensures kept { scopes.new ≡ record scopes.old { types = scopes.new.types; inner = scopes.new.inner } }
+    ensures grows { Grows scopes.old.types scopes.new.types }
+{
+    match rows {
+        Some(rows) => local_rows(scopes, rows),
+        None => Ok(()),
+    }
+}
+
+// Declares the variables of a part of a routine.
+fn local_rows(scopes: &mut Scopes<'_>, rows: &Rows<VariableRow>) -> Result<(), Stop>
+    ensures passes { (inner : Inner) → IsWithin inner scopes.old → Passes
+        (rows_words k.Var variable_row_words
+        (rows_in scopes.old.spellings.now (variable_row_in scopes.old.spellings.now) rows.now))
+        (spec.local_rows (outer_view scopes.old) (inner_view scopes.old.spellings.now inner)
+        (Some (rows_in scopes.old.spellings.now (variable_row_in scopes.old.spellings.now) rows.now)))
+        scopes.new result }
+    ensures kept { scopes.new ≡ record scopes.old { types = scopes.new.types; inner = scopes.new.inner } }
+    ensures grows { Grows scopes.old.types scopes.new.types }
+{
+    local_row(scopes, &rows.first)?;
+    for row in rows.more.as_slice() {
+        local_row(scopes, row)?;
+    }
+    Ok(())
+}
+
+// Declares variables of a routine of one type.
+fn local_row(scopes: &mut Scopes<'_>, row: &VariableRow) -> Result<(), Stop>
+    ensures passes { (inner : Inner) → IsWithin inner scopes.old → Passes
+        (variable_row_words (variable_row_in scopes.old.spellings.now row.now))
+        (spec.local_row (outer_view scopes.old) (outer_view scopes.old).types
+        (inner_view scopes.old.spellings.now inner) (variable_row_in scopes.old.spellings.now row.now))
+        scopes.new result }
+    ensures kept { scopes.new ≡ record scopes.old { types = scopes.new.types; inner = scopes.new.inner } }
+    ensures grows { Grows scopes.old.types scopes.new.types }
+{
+    let mut before = NameSet::new(scopes.alloc);
+    new_names(scopes, Region::Routine, &mut before, &row.names)?;
+    let made = form_alone(scopes, &row.form)?;
+    add_locals(scopes, &row.names, Mode::Declared, made)
+}
 
 // What a type expression makes in a routine, where the first fault that it shows is told.
 fn form_alone(scopes: &mut Scopes<'_>, written: &TypeForm) -> Result<Judged<PasType>, Stop>
@@ -37,6 +98,7 @@ fn form_alone(scopes: &mut Scopes<'_>, written: &TypeForm) -> Result<Judged<PasT
         (form_of s (table_view scopes.old.spellings.now scopes.old.types)
         (type_in scopes.old.spellings.now written.now)) (made_view scopes.new) result }
     ensures kept { scopes.new ≡ record scopes.old { types = scopes.new.types } }
+    ensures grows { Grows scopes.old.types scopes.new.types }
     ensures whole { IfOk result (λ found. (end_in found.end).is_short ≡ false) }
 {
     let mut noted = None;

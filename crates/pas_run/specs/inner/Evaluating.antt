@@ -109,6 +109,15 @@ Locates scene place before now result =
 abbrev pub IsBehind : (program : TypedProgram) → List Variable → CodeSlot → PasType → ℕ → Spot → Type 0
 IsBehind program variables slot type behind place = MeansSpot program variables type (code.Part slot behind) place
 
+-- behind how many cells of its variable a place begins that is no buffer
+abbrev pub LocatesPart : Scene → CodeSlot → Place → MachineState → MachineState → Result ℕ Stop → Type 0
+LocatesPart scene slot place before now result =
+    is_buffer place ≡ false → (variables : List Variable) (result' : Option PasType) (kinds : Kinds)
+    → IsScene scene variables result' kinds
+    → IsLawfulPlace (program_view scene.program.now) variables place → (most : ℕ)
+    → Does most kinds kinds (IsBehind (program_view scene.program.now) variables slot (type_of_place place))
+    (place_at (program_view scene.program.now) most place) before now result
+
 -- where the part is, no buffer, that is selected of a place of a type, which begins behind so many cells of a variable
 abbrev pub Selects : Scene → (Place → Place) → PasType → ℕ → MachineState → MachineState → Result ℕ Stop → Type 0
 Selects scene select type behind before now result =

@@ -8,8 +8,8 @@ use Rattle.pas_types.specs.declared.scopes.Scopes.{Scopes as CodeScopes}
 use Rattle.pas_types.specs.declared.stop.Stop.{Stop}
 use Rattle.pas_types.specs.declared.stop.Stop.TheVariants as stop
 use Rattle.pas_types.specs.Marks.{Marks, Judged, known}
-use Rattle.pas_types.specs.Scopes.{Entity, constant, type, Named, Outer, entity_in}
-use Rattle.pas_typed.specs.Types.{Made}
+use Rattle.pas_types.specs.Scopes.{Entity, constant, type, variable, Named, Outer, entity_in}
+use Rattle.pas_typed.specs.Types.{Structure, file, Table, Made}
 use Rattle.pas_typed.specs.Typed.{Variable}
 use Rattle.pas_typed.specs.Shapes.{IsAmong}
 use Rattle.pas_typed.specs.TypeViews.{counted}
@@ -48,10 +48,29 @@ abbrev pub AreTyped : ℕ → List Variable → Type 0
 AreTyped rows [] = ⊤
 AreTyped rows (found ∷ variables) = IsAmong rows found.type × AreTyped rows variables
 
--- the types of a scope of the program have the rows that its names and variables tell, and the variables together have
--- so many cells
+-- and so are the types of variables that names stand for, and what files have for components
+abbrev pub IsHeld : ℕ → Entity → Type 0
+IsHeld rows (variable slot) = IsAmong rows slot.type
+IsHeld rows entity = ⊤
+
+abbrev pub AreHeld : ℕ → List Named → Type 0
+AreHeld rows [] = ⊤
+AreHeld rows (named ∷ found) = IsHeld rows named.entity × AreHeld rows found
+
+abbrev pub IsFiled : ℕ → Structure → Type 0
+IsFiled rows (file component) = IsAmong rows component
+IsFiled rows structure = ⊤
+
+abbrev pub AreFiled : ℕ → Table → Type 0
+AreFiled rows [] = ⊤
+AreFiled rows (found ∷ table) = IsFiled rows found.structure × AreFiled rows table
+
+-- the types of a scope of the program have the rows that its names, variables and files tell, and the variables
+-- together have so many cells
 pub record IsCounted (outer : Outer) (cells : ℕ) : Type 0 where
   pub names : AreThere (length outer.types) outer.names
+  pub slots : AreHeld (length outer.types) outer.names
+  pub files : AreFiled (length outer.types) outer.types
   pub globals : AreTyped (length outer.types) outer.globals
   pub cells_are : cells ≡ counted (cells_together outer.types outer.globals)
 

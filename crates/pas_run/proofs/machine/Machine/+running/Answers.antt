@@ -47,6 +47,31 @@ use Rattle.pas_run.proofs.SelectorLemmas.{turned_at, turned_more, turned_all, be
 use Rattle.pas_run.proofs.SelectorLemmas.{does_variable, buffer_stop, buffer_next, not_buffer, no_buffer}
 use Rattle.pas_run.proofs.ValueLemmas.{goes_value_of, and_by, or_by, goes_and, goes_or, does_product, does_addition}
 use Rattle.pas_run.proofs.ValueLemmas.{does_constant, none_and, none_or}
+use Rattle.std.proofs.Common.{subst₂, ◌++◌, ◌∷◌, [], length, arith}
+use Rattle.std.proofs.lemmas.List.{take_all}
+use Rattle.pas_typed.specs.declared.typed.Passed as code_passed
+use Rattle.pas_typed.specs.TypeOf.{type_of}
+use Rattle.pas_typed.specs.Typed.{Variable, Passed}
+use Rattle.pas_typed.specs.TypedViews.{passed_view, passed_views}
+use Rattle.pas_typed.specs.Lawful.{IsOrdinal, ArePassed}
+use Rattle.pas_typed.proofs.ValueViews.{passed_view-Value, passed_view-Reference}
+use Rattle.pas_run.specs.declared.arguments.Argument.{Argument as CodeArgument}
+use Rattle.pas_run.specs.declared.spots.Spot.{Spot as CodeSpot}
+use Rattle.pas_run.specs.inner.Copying.{IsWhole, IsFound, AreCells, held_at, Copies}
+use Rattle.pas_run.specs.inner.Calling.{AreGiven, IsOneGiven, arguments_of, PassesOne}
+use Rattle.std.proofs.Common.{ℕ}
+use Rattle.pas_run.proofs.SelectorLemmas.{does_stopped}
+use Rattle.pas_run.proofs.CopyLemmas.{whole_no_buffer, copy_stop, copy_next}
+use Rattle.pas_run.proofs.CopyLemmas.{whole_source, some_view, none_view}
+use Rattle.pas_run.proofs.ArgumentLemmas.{none_given, more_given, one_stops, passed_at, passed_long, parts_at, more_at}
+use Rattle.pas_run.proofs.ArgumentLemmas.{value_stop, value_next, whole_stop, whole_next, place_stop, place_next}
+use Rattle.pas_run.proofs.ArgumentLemmas.{number_lawful}
+use Rattle.std.proofs.Common.{is_some, IsSome}
+use Rattle.pas_typed.specs.declared.typed.Part.TheViews.{out-Call}
+use Rattle.pas_typed.specs.Typed.{Body}
+use Rattle.pas_run.proofs.CallLemmas.{call_is}
+use Rattle.pas_run.proofs.CallLemmas.{function_no_arguments, function_stopped}
+use Rattle.pas_run.proofs.CallLemmas.{function_answers}
 use Rattle.pas_run.proofs.machine.Machine.+running.Goals as goal
 
 -- forms of values
@@ -557,9 +582,24 @@ spot_at-returns-in_ok-slot-clause-does g t c variables result kinds at is most =
     (place_view c.args.place.now) c.in_ok-slot.slot c.pas_type.result (c.is_buffer.ensures ∙ c.if-is_buffer.true) is
     c.pas_type.ensures c.in_ok-slot.ensures.variable
 
-pub spot_at-returns-else-is_buffer-clause-does : goal.spot_at-returns-else-is_buffer-clause-does
-spot_at-returns-else-is_buffer-clause-does g t c =
-    c.part_at.ensures.does (c.is_buffer.ensures ∙ c.if-is_buffer.false)
+pub spot_at-returns-in_err-behind-clause-does : goal.spot_at-returns-in_err-behind-clause-does
+spot_at-returns-in_err-behind-clause-does g t c variables result kinds at is most =
+    let program = program_view c.args.scene.program.now in
+    let place : Place = place_view c.args.place.now in
+    does_early most kinds kinds (MeansSpot program variables (type_of_place place)) (place_at program most place)
+    c.args.self.now c.part_at.new.self c.in_err-behind.field-0.0 c.from_residual-in_err-behind.result
+    (err_from_is_err_and _ c.from_residual-in_err-behind.ensures.1)
+    (does_stopped {T = ℕ} {U = CodeSpot} most kinds kinds
+    (IsBehind program variables c.args.place.now.slot (type_of_place place))
+    (MeansSpot program variables (type_of_place place)) (place_at program most place) c.args.self.now
+    c.part_at.new.self c.in_err-behind.field-0.0
+    (c.in_err-behind.ensures.does (c.is_buffer.ensures ∙ c.if-is_buffer.false) variables result kinds at is most))
+
+pub spot_at-returns-in_ok-behind-clause-does : goal.spot_at-returns-in_ok-behind-clause-does
+spot_at-returns-in_ok-behind-clause-does g t c variables result kinds at is most =
+    does_part (program_view c.args.scene.program.now) at.lawful variables most kinds c.args.place.now.slot
+    c.in_ok-behind.behind (place_view c.args.place.now) c.args.self.now c.part_at.new.self
+    (c.in_ok-behind.ensures.does (c.is_buffer.ensures ∙ c.if-is_buffer.false) variables result kinds at is most)
 
 pub part_at-loop-part-init : goal.part_at-loop-part-init
 part_at-loop-part-init g t c = (
@@ -618,9 +658,12 @@ part_at-returns-in_err-behind-clause-does g t c other variables result kinds at 
     turned_at first part_view items i item c.loop-part-test.true c.part-item.is
     ∙ ap (λ (parts : List code_part.Part). in_turn first (map part_view parts)) c.as_slice-part-items.ensures
     ∙ place_out c.args.place.now in
-    does_early most kinds kinds (MeansSpot program variables (type_of_place place)) (place_at program most place)
+    does_early most kinds kinds (IsBehind program variables slot (type_of_place place)) (place_at program most place)
     c.args.self.now c.behind_part.new.self c.in_err-behind.field-0.0 c.from_residual.result
     (err_from_is_err_and _ c.from_residual.ensures.1)
+    (does_stopped {T = CodeSpot} {U = ℕ} most kinds kinds (MeansSpot program variables (type_of_place place))
+    (IsBehind program variables slot (type_of_place place)) (place_at program most place) c.args.self.now
+    c.behind_part.new.self c.in_err-behind.field-0.0
     (all_stops program at.lawful variables most kinds c.args.self.now c.behind_part.new.self
     c.in_err-behind.field-0.0 (IsBehind program variables slot (type_of_place (part_view item so_far)))
     (drop (suc i) items) (part_view item so_far) place all other is
@@ -632,7 +675,7 @@ part_at-returns-in_err-behind-clause-does g t c other variables result kinds at 
     (subst (IsLawfulPlace program variables) (sym all) is)) c.loop-part.invariant.0 slot most c.args.self.now
     (subst (λ (type : PasType). Does most kinds kinds (IsBehind program variables slot type)
     (place_at program most so_far) c.args.self.now c.loop-part.self (Ok c.loop-part.behind))
-    c.loop-part.invariant.0 (c.loop-part.invariant.2 other variables result kinds at is most))))
+    c.loop-part.invariant.0 (c.loop-part.invariant.2 other variables result kinds at is most)))))
 
 pub part_at-returns-clause-does : goal.part_at-returns-clause-does
 part_at-returns-clause-does g t c other variables result kinds at is most =
@@ -642,13 +685,12 @@ part_at-returns-clause-does g t c other variables result kinds at is most =
     let items : List code_part.Part = c.as_slice-part-items.result.now in
     let i = c.loop-part.part-index in
     let so_far : Place = in_turn first (map part_view (take i items)) in
-    subst (λ (place : Place). Does most kinds kinds (MeansSpot program variables (type_of_place place))
-    (place_at program most place) c.args.self.now c.loop-part.self (Ok (code.Part slot c.loop-part.behind)))
+    subst (λ (place : Place). Does most kinds kinds (IsBehind program variables slot (type_of_place place))
+    (place_at program most place) c.args.self.now c.loop-part.self (Ok c.loop-part.behind))
     (turned_all first part_view items i c.loop-part-test.false
     ∙ ap (λ (parts : List code_part.Part). in_turn first (map part_view parts)) c.as_slice-part-items.ensures
     ∙ place_out c.args.place.now)
-    (does_part program at.lawful variables most kinds slot c.loop-part.behind so_far c.args.self.now c.loop-part.self
-    (c.loop-part.invariant.2 other variables result kinds at is most))
+    (c.loop-part.invariant.2 other variables result kinds at is most)
 
 pub behind_part-returns-in-Element-clause-does : goal.behind_part-returns-in-Element-clause-does
 behind_part-returns-in-Element-clause-does g t c =
@@ -739,3 +781,296 @@ behind_elements-returns-clause-does g t c of_whole variables result kinds at pla
     (counted-product (cells_of program.types type) c.in_ok-number.number c.cells_of-each.result c.from.result
     c.saturating_mul.result (c.cells_of-each.ensures c.args.scene.program.now.spellings) c.from.ensures c.from.type_inv
     c.saturating_mul.ensures))
+
+-- whole variables
+
+pub copy_of-returns-in-Parenthesized-clause-does : goal.copy_of-returns-in-Parenthesized-clause-does
+copy_of-returns-in-Parenthesized-clause-does g t c =
+    subst (λ (found : Value). Copies c.args.scene found c.args.self.now c.copy_of.new.self c.copy_of.result)
+    (sym (ap value_view c.in-Parenthesized.is ∙ value_view-Parenthesized _
+    ∙ ap (λ (one : code_value.Value). typed.parenthesized (value_view one)) (sym c.get.ensures)))
+    c.copy_of.ensures.does
+
+pub copy_of-returns-in-Read-clause-does : goal.copy_of-returns-in-Read-clause-does
+copy_of-returns-in-Read-clause-does g t c =
+    subst (λ (found : Value). Copies c.args.scene found c.args.self.now c.copy_of_place.new.self
+    c.copy_of_place.result)
+    (sym (ap value_view c.in-Read.is ∙ value_view-Read _ ∙ ap (λ (place : code_place.Place). typed.read (place_view
+    place)) (sym c.get-in-Read.ensures)))
+    c.copy_of_place.ensures.does
+
+pub copy_of_place-returns-in_err-behind-clause-does : goal.copy_of_place-returns-in_err-behind-clause-does
+copy_of_place-returns-in_err-behind-clause-does g t c variables result kinds at is most =
+    let program = program_view c.args.scene.program.now in
+    let place = place_view c.args.place.now in
+    does_early most kinds kinds (AreCells program.types (type_of_place place))
+    (value_of program most (typed.read place)) c.args.self.now
+    c.part_at.new.self c.in_err-behind.field-0.0 c.from_residual.result
+    (err_from_is_err_and _ c.from_residual.ensures.1)
+    (copy_stop most kinds program variables place c.args.place.now.slot c.args.self.now c.part_at.new.self
+    c.in_err-behind.field-0.0
+    (c.in_err-behind.ensures.does (whole_no_buffer program variables place at.lawful is.0 is.1) variables result kinds
+    at is.0 most))
+
+pub copy_of_place-returns-clause-does : goal.copy_of_place-returns-clause-does
+copy_of_place-returns-clause-does g t c variables result kinds at is most =
+    let program = program_view c.args.scene.program.now in
+    let place = place_view c.args.place.now in
+    let slot = c.args.place.now.slot in
+    copy_next most kinds program variables place slot c.args.self.now c.part_at.new.self c.in_ok-behind.behind
+    c.copy_part.result is.1
+    (c.in_ok-behind.ensures.does (whole_no_buffer program variables place at.lawful is.0 is.1) variables result kinds
+    at is.0 most)
+    (λ spot spot_is ports run stands.
+    subst (λ (type : PasType). IsBehind program variables slot type c.in_ok-behind.behind spot
+    → IsFound (λ found. AreCells program.types type found (held_at spot run.store)) c.copy_part.result)
+    (sym c.pas_type.ensures)
+    (λ spot_is. c.copy_part.ensures.found variables result kinds at spot spot_is ports run stands) spot_is)
+
+-- arguments
+
+pub number_argument-returns-in_err-found-clause-does : goal.number_argument-returns-in_err-found-clause-does
+number_argument-returns-in_err-found-clause-does g t c ordinal variables result kinds at parameter is most =
+    let program = program_view c.args.scene.program.now in
+    let type = type_view c.args.pas_type in
+    let value = value_view c.args.value.now in
+    does_early most kinds kinds (IsOneGiven program variables parameter)
+    (arguments_of program most (typed.value type value typed.nothing)) c.args.self.now c.number.new.self
+    c.in_err-found.field-0.0 c.from_residual.result (err_from_is_err_and _ c.from_residual.ensures.1)
+    (value_stop program variables most kinds c.args.self.now parameter type value {T = ℤ} IsNumber c.number.new.self
+    c.in_err-found.field-0.0
+    (operand_stop {T = ℤ} most kinds IsNumber (fits program.types type) (value_of program most value) c.args.self.now
+    c.number.new.self c.in_err-found.field-0.0
+    (c.in_err-found.ensures.does variables result kinds at
+    (number_lawful program variables type value parameter ordinal is) most)))
+
+pub number_argument-returns-in_err-number-clause-does : goal.number_argument-returns-in_err-number-clause-does
+number_argument-returns-in_err-number-clause-does g t c ordinal variables result kinds at parameter is most =
+    let program = program_view c.args.scene.program.now in
+    let type = type_view c.args.pas_type in
+    let value = value_view c.args.value.now in
+    let found : to_z w32 (of_z w32 c.in_ok-found.found) ≡ c.in_ok-found.found = search rules in
+    does_early most kinds kinds (IsOneGiven program variables parameter)
+    (arguments_of program most (typed.value type value typed.nothing)) c.args.self.now c.number.new.self
+    c.in_err-number.field-0.0 c.from_residual-in_err-number.result
+    (err_from_is_err_and _ c.from_residual-in_err-number.ensures.1)
+    (value_stop program variables most kinds c.args.self.now parameter type value {T = ℤ} IsNumber c.number.new.self
+    c.in_err-number.field-0.0
+    (operand_next {T = ℤ} most kinds IsNumber (fits program.types type) (value_of program most value) c.args.self.now
+    c.number.new.self c.in_ok-found.found (Err c.in_err-number.field-0.0) (goes_value_of program most value)
+    (c.in_ok-found.ensures.does variables result kinds at
+    (number_lawful program variables type value parameter ordinal is) most)
+    (subst (λ (number : ℤ). Answers {T = ℤ} IsNumber (fits program.types type (holds number))
+    (Err c.in_err-number.field-0.0)) found c.in_err-number.ensures.number)))
+
+pub number_argument-returns-clause-does : goal.number_argument-returns-clause-does
+number_argument-returns-clause-does g t c ordinal variables result kinds at parameter is most =
+    let program = program_view c.args.scene.program.now in
+    let type = type_view c.args.pas_type in
+    let value = value_view c.args.value.now in
+    let number : to_z w32 (of_z w32 c.in_ok-number.number) ≡ c.in_ok-number.number = search rules in
+    let found : to_z w32 (of_z w32 c.in_ok-found.found) ≡ c.in_ok-found.found = search rules in
+    value_next program variables most kinds c.args.self.now parameter type value IsNumber c.number.new.self
+    c.in_ok-number.number _
+    (operand_next {T = ℤ} most kinds IsNumber (fits program.types type) (value_of program most value) c.args.self.now
+    c.number.new.self c.in_ok-found.found (Ok c.in_ok-number.number) (goes_value_of program most value)
+    (c.in_ok-found.ensures.does variables result kinds at
+    (number_lawful program variables type value parameter ordinal is) most)
+    (subst (λ (number : ℤ). Answers {T = ℤ} IsNumber (fits program.types type (holds number))
+    (Ok c.in_ok-number.number)) found c.in_ok-number.ensures.number))
+    (λ datum datum_is. (is.0, subst (IsOrdinal program.types) (sym is.1) ordinal, datum_is ∙ ap holds (sym number)))
+
+pub whole_argument-returns-in_err-copied-clause-does : goal.whole_argument-returns-in_err-copied-clause-does
+whole_argument-returns-in_err-copied-clause-does g t c is_whole variables result kinds at parameter is most =
+    let program = program_view c.args.scene.program.now in
+    let type = type_view c.args.pas_type in
+    let value = value_view c.args.value.now in
+    does_early most kinds kinds (IsOneGiven program variables parameter)
+    (arguments_of program most (typed.value type value typed.nothing)) c.args.self.now c.copy_of.new.self
+    c.in_err-copied.field-0.0 c.from_residual.result (err_from_is_err_and _ c.from_residual.ensures.1)
+    (whole_stop program variables most kinds c.args.self.now parameter type value c.copy_of.new.self
+    c.in_err-copied.field-0.0
+    (c.in_err-copied.ensures.does variables result kinds at
+    (is.2, whole_source program.types type is_whole (type_of value) is.3) most))
+
+pub whole_argument-returns-clause-does : goal.whole_argument-returns-clause-does
+whole_argument-returns-clause-does g t c is_whole variables result kinds at parameter is most =
+    let program = program_view c.args.scene.program.now in
+    let type = type_view c.args.pas_type in
+    let value = value_view c.args.value.now in
+    value_next program variables most kinds c.args.self.now parameter type value (AreCells program.types type)
+    c.copy_of.new.self c.in_ok-copied.copied _
+    (whole_next program variables most kinds c.args.self.now parameter type value c.copy_of.new.self
+    c.in_ok-copied.copied is_whole is.3
+    (c.in_ok-copied.ensures.does variables result kinds at
+    (is.2, whole_source program.types type is_whole (type_of value) is.3) most))
+    (λ datum datum_is. (
+      is.0,
+      subst (λ (type : PasType). AreCells program.types type c.in_ok-copied.copied datum) (sym is.1) datum_is,
+    ))
+
+pub place_argument-returns-in_err-behind-clause-does : goal.place_argument-returns-in_err-behind-clause-does
+place_argument-returns-in_err-behind-clause-does g t c variables result kinds at parameter is most =
+    let program = program_view c.args.scene.program.now in
+    let place = place_view c.args.place.now in
+    does_early most kinds kinds (IsOneGiven program variables parameter)
+    (arguments_of program most (typed.reference place typed.nothing)) c.args.self.now c.part_at.new.self
+    c.in_err-behind.field-0.0 c.from_residual.result (err_from_is_err_and _ c.from_residual.ensures.1)
+    (place_stop program variables most kinds c.args.self.now parameter place c.args.place.now.slot c.part_at.new.self
+    c.in_err-behind.field-0.0 (c.in_err-behind.ensures.does is.3 variables result kinds at is.2 most))
+
+pub place_argument-returns-clause-does : goal.place_argument-returns-clause-does
+place_argument-returns-clause-does g t c variables result kinds at parameter is most =
+    place_next (program_view c.args.scene.program.now) variables most kinds c.args.self.now parameter
+    (place_view c.args.place.now) c.args.place.now.slot c.part_at.new.self c.in_ok-behind.behind is
+    (c.in_ok-behind.ensures.does is.3 variables result kinds at is.2 most)
+
+pub value_argument-returns-then-is_some-clause-does : goal.value_argument-returns-then-is_some-clause-does
+value_argument-returns-then-is_some-clause-does g t c =
+    c.number_argument.ensures.does
+    (subst IsSome (sym (c.range_of.ensures c.args.scene.program.now.spellings))
+    (some_view range_view c.range_of.result (sym c.is_some.ensures ∙ c.if-is_some.true)))
+
+pub value_argument-returns-else-is_some-clause-does : goal.value_argument-returns-else-is_some-clause-does
+value_argument-returns-else-is_some-clause-does g t c =
+    c.whole_argument.ensures.does
+    (c.range_of.ensures c.args.scene.program.now.spellings
+    ∙ none_view range_view c.range_of.result (sym c.is_some.ensures ∙ c.if-is_some.false))
+
+pub argument-returns-in-Value-clause-does : goal.argument-returns-in-Value-clause-does
+argument-returns-in-Value-clause-does g t c =
+    subst (λ (passed : Passed → Passed). PassesOne c.args.scene passed c.args.self.now c.value_argument.new.self
+    c.value_argument.result)
+    (sym (ap passed_view c.in-Value.is ∙ passed_view-Value _ _))
+    c.value_argument.ensures.does
+
+pub argument-returns-in-Reference-clause-does : goal.argument-returns-in-Reference-clause-does
+argument-returns-in-Reference-clause-does g t c =
+    subst (λ (passed : Passed → Passed). PassesOne c.args.scene passed c.args.self.now c.place_argument.new.self
+    c.place_argument.result)
+    (sym (ap passed_view c.in-Reference.is ∙ passed_view-Reference _))
+    c.place_argument.ensures.does
+
+pub arguments-loop-one-init : goal.arguments-loop-one-init
+arguments-loop-one-init g t c = (
+  refl,
+  λ variables result kinds at parameters are most.
+      subst (λ (founds : List CodeArgument). Does most kinds kinds
+      (AreGiven (program_view c.args.scene.program.now) variables [])
+      (arguments_of (program_view c.args.scene.program.now) most (passed_views [])) c.args.self.now c.args.self.now
+      (Ok founds)) (sym c.new-arguments.ensures)
+      (none_given (program_view c.args.scene.program.now) variables most kinds c.args.self.now),
+)
+
+pub arguments-loop-one-preserved : goal.arguments-loop-one-preserved
+arguments-loop-one-preserved g t c =
+    let items = c.as_slice-one-items.result.now in
+    let i = c.loop-one.one-index in
+    let item = c.one-item.result in (
+      c.in_ok-argument.ensures.cause ∙ c.loop-one.invariant.0,
+      λ variables result kinds at parameters are most.
+          let program = program_view c.args.scene.program.now in
+          let found = passed_at program variables items i item parameters c.loop-one-test.true c.one-item.is
+          (subst (λ (passed : List code_passed.Passed). ArePassed program variables (passed_views passed) parameters)
+          (sym c.as_slice-one-items.ensures) are) in
+          subst₂ (λ (parameters : List Variable) (passed : List code_passed.Passed).
+          Does most kinds kinds (AreGiven program variables parameters)
+          (arguments_of program most (passed_views passed)) c.args.self.now c.argument.new.self (Ok c.push.new.self)) (sym found.more)
+          (sym (more_at items i item c.loop-one-test.true c.one-item.is))
+          (subst (λ (founds : List CodeArgument). Does most kinds kinds
+          (AreGiven program variables (take i parameters ++ found.parameter ∷ []))
+          (arguments_of program most (passed_views (take i items ++ item ∷ [])))
+          c.args.self.now c.argument.new.self (Ok founds)) (sym c.in_ok-push.ensures.ok)
+          (more_given program variables most kinds (take i items) item (take i parameters) found.parameter
+          c.loop-one.arguments c.args.self.now c.loop-one.self
+          (c.loop-one.invariant.1 variables result kinds at parameters are most) c.argument.new.self
+          c.in_ok-argument.argument
+          (c.in_ok-argument.ensures.does variables result kinds at found.parameter found.passed most))),
+    )
+
+pub arguments-returns-in_err-argument-clause-does : goal.arguments-returns-in_err-argument-clause-does
+arguments-returns-in_err-argument-clause-does g t c variables result kinds at parameters are most =
+    let program = program_view c.args.scene.program.now in
+    let items = c.as_slice-one-items.result.now in
+    let i = c.loop-one.one-index in
+    let item = c.one-item.result in
+    let found = passed_at program variables items i item parameters c.loop-one-test.true c.one-item.is
+    (subst (λ (passed : List code_passed.Passed). ArePassed program variables (passed_views passed) parameters)
+    (sym c.as_slice-one-items.ensures) are) in
+    does_early most kinds kinds (AreGiven program variables parameters)
+    (arguments_of program most (passed_views c.args.passed.now)) c.args.self.now
+    c.argument.new.self c.in_err-argument.field-0.0 c.from_residual.result
+    (err_from_is_err_and _ c.from_residual.ensures.1)
+    (subst (λ (passed : List code_passed.Passed). Does {T = List CodeArgument} most kinds kinds
+    (AreGiven program variables parameters) (arguments_of program most (passed_views passed)) c.args.self.now
+    c.argument.new.self (Err c.in_err-argument.field-0.0))
+    (parts_at items i item c.loop-one-test.true c.one-item.is ∙ c.as_slice-one-items.ensures)
+    (one_stops program variables most kinds (take i items) item (take i parameters) found.parameter
+    c.loop-one.arguments c.args.self.now c.loop-one.self
+    (c.loop-one.invariant.1 variables result kinds at parameters are most) (drop (suc i) items) parameters
+    c.argument.new.self c.in_err-argument.field-0.0
+    (c.in_err-argument.ensures.does variables result kinds at found.parameter found.passed most)))
+
+pub arguments-returns-clause-does : goal.arguments-returns-clause-does
+arguments-returns-clause-does g t c variables result kinds at parameters are most =
+    let program = program_view c.args.scene.program.now in
+    let items = c.as_slice-one-items.result.now in
+    let i = c.loop-one.one-index in
+    let long = passed_long program variables c.args.passed.now parameters are in
+    subst₂ (λ (parameters : List Variable) (passed : List code_passed.Passed).
+    Does most kinds kinds (AreGiven program variables parameters) (arguments_of program most (passed_views passed))
+    c.args.self.now c.loop-one.self (Ok c.loop-one.arguments))
+    (take_all i parameters (omega (arith, long, c.loop-one-test.false, ap length c.as_slice-one-items.ensures)))
+    (take_all i items c.loop-one-test.false ∙ c.as_slice-one-items.ensures)
+    (c.loop-one.invariant.1 variables result kinds at parameters are most)
+
+-- calls
+
+pub function_result-returns-in_err-arguments-clause-does : goal.function_result-returns-in_err-arguments-clause-does
+function_result-returns-in_err-arguments-clause-does g t c =
+    let call = out-Call c.args.call.now in
+    let type = type_view call.pas_type in
+    let passed = passed_views call.passed in
+    subst (λ (found : Value). Evaluates c.args.scene found c.args.self.now c.arguments.new.self c.from_residual.result)
+    (sym (call_is c.args.call.now))
+    (λ variables result kinds at is most.
+    let program = program_view c.args.scene.program.now in
+    does_early most kinds kinds IsNumber (value_of program most (typed.call call.routine type passed)) c.args.self.now
+    c.arguments.new.self c.in_err-arguments.field-0.0 c.from_residual.result
+    (err_from_is_err_and _ c.from_residual.ensures.1)
+    (function_no_arguments program most variables kinds call.routine is.0.0 passed c.args.self.now type
+    c.arguments.new.self c.in_err-arguments.field-0.0
+    (c.in_err-arguments.ensures.does variables result kinds at is.0.0.parameters is.0.3 most)))
+
+pub function_result-returns-in_err-cell-clause-does : goal.function_result-returns-in_err-cell-clause-does
+function_result-returns-in_err-cell-clause-does g t c =
+    let call = out-Call c.args.call.now in
+    let type = type_view call.pas_type in
+    let passed = passed_views call.passed in
+    subst (λ (found : Value). Evaluates c.args.scene found c.args.self.now c.call.new.self
+    c.from_residual-in_err-cell.result) (sym (call_is c.args.call.now))
+    (λ variables result kinds at is most.
+    let program = program_view c.args.scene.program.now in
+    does_early most kinds kinds IsNumber (value_of program most (typed.call call.routine type passed)) c.args.self.now
+    c.call.new.self c.in_err-cell.field-0.0 c.from_residual-in_err-cell.result
+    (err_from_is_err_and _ c.from_residual-in_err-cell.ensures.1)
+    (function_stopped program most variables kinds call.routine is.0.0 passed c.args.self.now c.arguments.new.self
+    c.in_ok-arguments.arguments
+    (c.in_ok-arguments.ensures.does variables result kinds at is.0.0.parameters is.0.3 most) type c.call.new.self
+    c.in_err-cell.field-0.0
+    (λ values are. c.in_err-cell.ensures.does variables result kinds at is.0.0 is.0.1 values are most)))
+
+pub function_result-returns-clause-does : goal.function_result-returns-clause-does
+function_result-returns-clause-does g t c =
+    let call = out-Call c.args.call.now in
+    let type = type_view call.pas_type in
+    let passed = passed_views call.passed in
+    subst (λ (found : Value). Evaluates c.args.scene found c.args.self.now c.call.new.self c.result_in.result)
+    (sym (call_is c.args.call.now))
+    (λ variables result kinds at is most.
+    function_answers (program_view c.args.scene.program.now) most variables kinds call.routine is.0.0 passed
+    c.args.self.now c.arguments.new.self c.in_ok-arguments.arguments
+    (c.in_ok-arguments.ensures.does variables result kinds at is.0.0.parameters is.0.3 most) type c.call.new.self
+    c.in_ok-cell.cell c.result_in.result (ap is_some is.0.2)
+    (λ values are. c.in_ok-cell.ensures.does variables result kinds at is.0.0 is.0.1 values are most)
+    c.result_in.ensures.number)

@@ -5,18 +5,19 @@ use Rattle.pas_typed.specs.Typed as typed
 use Rattle.pas_typed.specs.Typed.{Variable, Place}
 use Rattle.pas_typed.specs.TypeOf.{type_of_place, is_buffer}
 use Rattle.pas_typed.specs.TypeViews.{type_view}
-use Rattle.pas_typed.specs.TypedViews.{slot_view, part_view, place_view, program_view}
-use Rattle.pas_typed.specs.Lawful.{IsLawfulPlace}
+use Rattle.pas_typed.specs.TypedViews.{slot_view, part_view, place_view, passed_views, program_view}
+use Rattle.pas_typed.specs.Lawful.{IsLawfulPlace, ArePassed}
 use Rattle.pas_meaning.specs.Standing.{Kinds}
 use Rattle.pas_run.specs.inner.MachineState.{failures_of}
 use Rattle.pas_run.specs.inner.Doings.{Does}
 use Rattle.pas_run.specs.inner.Scenes.{IsScene}
 use Rattle.pas_run.specs.inner.Evaluating.{IsBehind, place_at}
+use Rattle.pas_run.specs.inner.Calling.{AreGiven, arguments_of}
 use Rattle.pas_run.proofs.machine.Machine.+running.Given as goal
 
 -- each expression takes a level
 abbrev left : ℕ → ℕ
-left levels = 8 * levels
+left levels = 32 * levels
 
 abbrev pub decreases-number : goal.decreases-number
 decreases-number g l = left l.levels + 0
@@ -72,6 +73,33 @@ decreases-behind_part g l = left l.levels + 2
 abbrev pub decreases-behind_elements : goal.decreases-behind_elements
 decreases-behind_elements g l = left l.levels + 1
 
+abbrev pub decreases-copy_of : goal.decreases-copy_of
+decreases-copy_of g l = left l.levels + 1
+
+abbrev pub decreases-copy_of_place : goal.decreases-copy_of_place
+decreases-copy_of_place g l = left l.levels + 5
+
+abbrev pub decreases-value_argument : goal.decreases-value_argument
+decreases-value_argument g l = left l.levels + 7
+
+abbrev pub decreases-number_argument : goal.decreases-number_argument
+decreases-number_argument g l = left l.levels + 5
+
+abbrev pub decreases-whole_argument : goal.decreases-whole_argument
+decreases-whole_argument g l = left l.levels + 6
+
+abbrev pub decreases-place_argument : goal.decreases-place_argument
+decreases-place_argument g l = left l.levels + 5
+
+abbrev pub decreases-argument : goal.decreases-argument
+decreases-argument g l = left l.levels + 8
+
+abbrev pub decreases-arguments : goal.decreases-arguments
+decreases-arguments g l = left l.levels + 9
+
+abbrev pub decreases-function_result : goal.decreases-function_result
+decreases-function_result g l = left l.levels + 30
+
 abbrev pub invariant-part_at-loop-part : goal.invariant-part_at-loop-part
 invariant-part_at-loop-part g l =
     let program = program_view l.scene.program.now in
@@ -83,3 +111,13 @@ invariant-part_at-loop-part g l =
     → IsScene l.scene variables result' kinds → IsLawfulPlace program variables (place_view l.place) → (most : ℕ)
     → Does most kinds kinds (IsBehind program variables l.place.slot (type_of_place so_far))
     (place_at program most so_far) l.fn.self l.self (Ok l.behind))
+
+abbrev pub invariant-arguments-loop-one : goal.invariant-arguments-loop-one
+invariant-arguments-loop-one g l =
+    let program = program_view l.scene.program.now in
+    (failures_of l.self.files ≡ failures_of l.fn.self.files)
+    × ((variables : List Variable) (result' : Option PasType) (kinds : Kinds)
+    → IsScene l.scene variables result' kinds → (parameters : List Variable)
+    → ArePassed program variables (passed_views l.passed) parameters → (most : ℕ)
+    → Does most kinds kinds (AreGiven program variables (take l.one-index parameters))
+    (arguments_of program most (passed_views (take l.one-index l.one-items))) l.fn.self l.self (Ok l.arguments))
