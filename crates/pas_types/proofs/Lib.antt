@@ -104,3 +104,4 @@ pub mod BodiedRoutines
 pub mod LinkedGlobals
 pub mod LawfulFiles
 pub mod LawfulPrograms
+pub mod HeldTexts
