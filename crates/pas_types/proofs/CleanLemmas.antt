@@ -6,7 +6,6 @@ use Rattle.pas_tokens.specs.Cutting.{Wrong}
 use Rattle.pas_types.specs.Marks.{Marks, no_token, quiet, shows, first_of, at_first, last_of, at_last, with_behind}
 use Rattle.pas_types.specs.Marks.{followed, joined, listed, unless, Judged, judged, known, both, known_of, all_known}
 use Rattle.pas_types.specs.Marks.{kept_by, checked_by, checked, faults_if, noted}
-
 -- something that holds of each item
 pub use Rattle.std.specs.List.{AllByRecursion as Each}
 
@@ -70,9 +69,10 @@ followed_clean part next h =
     let behind : Marks = at_first part.behind next in
     let found : (part.behind ≡ []) × IsClean next =
     at_first_clean part.behind next
-    (record { still = each_behind (λ faults. faults ≡ []) part.tokens behind.tokens h.still; behind = h.behind }) in
-    (record { still = each_before (λ faults. faults ≡ []) part.tokens behind.tokens h.still; behind = found.0 },
-    found.1)
+    (record { still = each_behind (λ faults. faults ≡ []) part.tokens behind.tokens h.still; behind = h.behind }) in (
+      record { still = each_before (λ faults. faults ≡ []) part.tokens behind.tokens h.still; behind = found.0 },
+      found.1,
+    )
 
 -- parts one after another, and with words between them
 pub joined_clean : (parts : List Marks) → IsClean (joined parts) → Each IsClean parts

@@ -1,5 +1,6 @@
 -- The words of a program that a text means are those of tokens.
-use Rattle.std.proofs.Common.{◌≡◌, refl, sym, ap, subst, ◌∙◌, ℕ, zero, suc, ◌+◌, ◌≤◌, ◌==◌, ◌&&◌, ◌||◌, arith, Bool, true}
+use Rattle.std.proofs.Common.{◌≡◌, refl, sym, ap, subst, ◌∙◌, ℕ, zero, suc, ◌+◌, ◌≤◌, ◌==◌, ◌&&◌, ◌||◌, arith, Bool}
+use Rattle.std.proofs.Common.{true}
 use Rattle.std.proofs.Common.{false, List, [], ◌∷◌, ◌++◌, length, map, take, drop, Option, Some, None, Result, Ok, Err}
 use Rattle.std.proofs.Common.{IfOk, All, eqb-true}
 use Rattle.std.specs.Prelude.{⊤, nat_lt, codes, if◌then◌else◌}
@@ -12,7 +13,8 @@ use Rattle.std.proofs.lemmas.List.Elements.{recursion_from_All}
 use Rattle.std.proofs.lemmas.Bool.Decides.{nat_tests}
 use Rattle.wb_base.specs.declared.faults.Fault.{Fault}
 use Rattle.wb_base.specs.declared.faults.TheConstants.{LIMIT_FILE_BYTES, FILE_LIMIT, BAD_PASCAL_TOKEN}
-use Rattle.wb_base.specs.declared.faults.TheConstants.{BAD_PASCAL_BYTE, PASCAL_LEFT_OUT, REAL_NUMBERS, NESTING_PAST_LIMIT}
+use Rattle.wb_base.specs.declared.faults.TheConstants.{BAD_PASCAL_BYTE, PASCAL_LEFT_OUT, REAL_NUMBERS}
+use Rattle.wb_base.specs.declared.faults.TheConstants.{NESTING_PAST_LIMIT}
 use Rattle.wb_base.specs.Steps.{followed_by}
 use Rattle.pas_tokens.specs.declared.kinds.Kind.{Kind}
 use Rattle.pas_tokens.specs.declared.kinds.Kind.TheVariants as k

@@ -77,14 +77,88 @@ module _ (P : Entity → Type 0) where
 
 -- the names that lie outside
 required_lawful : (program : TypedProgram) → Each (λ named. IsLawfulEntity program [] named.entity) required
-required_lawful program =
-    (tt, (tt, (tt, (tt, (refl, (refl, (within_greatest GREATEST_NUMBER (omega arith), (tt, (tt, (tt, (tt, (tt, (tt,
-    (tt, (tt, (tt, (tt, (tt, (tt, (tt, (tt, (tt, tt))))))))))))))))))))))
+required_lawful program = (
+  tt,
+  (
+    tt,
+    (
+      tt,
+      (
+        tt,
+        (
+          refl,
+          (
+            refl,
+            (
+              within_greatest GREATEST_NUMBER (omega arith),
+              (
+                tt,
+                (
+                  tt,
+                  (
+                    tt,
+                    (
+                      tt,
+                      (
+                        tt,
+                        (
+                          tt,
+                          (tt, (tt, (tt, (tt, (tt, (tt, (tt, (tt, (tt, tt))))))))),
+                        ),
+                      ),
+                    ),
+                  ),
+                ),
+              ),
+            ),
+          ),
+        ),
+      ),
+    ),
+  ),
+)
 
 required_plain : Each (λ named. IsPlain named.entity) required
-required_plain =
-    (refl, (refl, (refl, (refl, (refl, (refl, (refl, (refl, (refl, (refl, (refl, (refl, (refl,
-    (refl, (refl, (refl, (refl, (refl, (refl, (refl, (refl, (refl, tt))))))))))))))))))))))
+required_plain = (
+  refl,
+  (
+    refl,
+    (
+      refl,
+      (
+        refl,
+        (
+          refl,
+          (
+            refl,
+            (
+              refl,
+              (
+                refl,
+                (
+                  refl,
+                  (
+                    refl,
+                    (
+                      refl,
+                      (
+                        refl,
+                        (
+                          refl,
+                          (refl, (refl, (refl, (refl, (refl, (refl, (refl, (refl, (refl, tt))))))))),
+                        ),
+                      ),
+                    ),
+                  ),
+                ),
+              ),
+            ),
+          ),
+        ),
+      ),
+    ),
+  ),
+)
 
 -- what is lawful in the program is so in a routine
 slot_within : (program : TypedProgram) (variables : List Variable) (slot : typed.Slot) (home : typed.Home)
@@ -143,7 +217,8 @@ program_lawful outer h = record {
 
 pub program_plain : (outer : Outer) → IsLawfulOuter outer → ArePlain (program_scopes outer)
 program_plain outer h name =
-    or_else_if IsPlain (entity_in outer.names name) (entity_in required name) (found_in IsPlain outer.names name h.clear)
+    or_else_if IsPlain (entity_in outer.names name) (entity_in required name) (found_in IsPlain outer.names name
+    h.clear)
     (found_in IsPlain required name required_plain)
 
 pub within_plain : (outer : Outer) (inner : Inner) → IsLawfulOuter outer
@@ -187,8 +262,11 @@ more_rows_lawful outer later grown h =
       rows = grown.lawful;
       names = each_then (IsNamed (so_far outer)) (IsNamed (so_far now)) outer.names
           (λ named is. entity_stays (so_far outer) (so_far now)
-          (record { types = grown.rows; globals = stays_same outer.globals;
-            headings = stays_same (so_far outer).headings })
+          (record {
+            types = grown.rows;
+            globals = stays_same outer.globals;
+            headings = stays_same (so_far outer).headings;
+          })
           grown.longer [] named.entity is) h.names;
       clear = h.clear;
       headings = each_then (λ found. IsLawfulHeading outer.types found.heading)
@@ -352,7 +430,8 @@ slots_lawful program before (found ∷ variables) after is = (
     mode = refl;
     type = refl;
   },
-  subst (λ n. Each (IsNamed program) (spec.named_slots typed.global n variables)) (omega (arith, length-append before (found ∷ [])))
+  subst (λ n. Each (IsNamed program) (spec.named_slots typed.global n variables)) (omega (arith, length-append before
+  (found ∷ [])))
       (slots_lawful program (before ++ found ∷ []) variables after
       (is ∙ sym (append_assoc before (found ∷ []) (variables ++ after)))),
 )
@@ -379,8 +458,7 @@ with_globals_lawful outer spellings (Some found) some h is =
       types = is.grown.rows;
       globals = stays_behind outer.globals variables;
       headings = stays_same (so_far outer).headings;
-    } in
-    (
+    } in (
       record {
         rows = is.grown.lawful;
         names = each_append (IsNamed (so_far now)) outer.names

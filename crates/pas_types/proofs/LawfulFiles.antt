@@ -1,6 +1,7 @@
 -- The files of a program without faults are variables of lawful file types, each once.
 use Rattle.std.proofs.Common.{length, ◌<◌}
-use Rattle.std.proofs.Common.{◌≡◌, ◌≢◌, refl, sym, ap, subst, ◌∙◌, ℕ, zero, suc, ◌+◌, arith, ◌||◌, Bool, true, false, not}
+use Rattle.std.proofs.Common.{◌≡◌, ◌≢◌, refl, sym, ap, subst, ◌∙◌, ℕ, zero, suc, ◌+◌, arith, ◌||◌, Bool, true, false}
+use Rattle.std.proofs.Common.{not}
 use Rattle.std.proofs.Common.{List, [], ◌∷◌, ◌++◌, map, append_assoc, Option, Some, None, IsSome, is_some, IsSomeAnd}
 use Rattle.std.proofs.Common.{true≢false}
 use Rattle.std.specs.Prelude.{⊤, slice_get, flat_map, option_map, option_to_list, position, if◌then◌else◌}
@@ -49,7 +50,8 @@ file_name : (outer : Outer) (name : List ℕ) (entity : Option Entity) → entit
     → spec.parameter_faults outer.types entity ≡ [] → IsFileName outer name
 file_name outer name None at is = some_fault (wrong UNKNOWN_NAME) [] is
 file_name outer name (Some entity) at is =
-    let found = file_variable outer.types entity (holds (spec.is_file_variable outer.types entity) (wrong FILE_RULE) is) in
+    let found = file_variable outer.types entity (holds (spec.is_file_variable outer.types entity) (wrong FILE_RULE)
+        is) in
     record { slot = found.0; there = at ∙ ap Some found.1; file = found.2 }
 
 not_true : (b : Bool) → not b ≡ true → b ≡ false
@@ -65,10 +67,12 @@ each_file outer before (ident ∷ idents) clean =
     let entity : Option Entity = entity_in outer.names ident.name in
     let none = no_faults (unless (not (contains before ident.name)) (wrong DUPLICATE_NAME))
     (spec.parameter_faults outer.types entity) clean.0.still.0 in
-    let rest = each_file outer (before ++ ident.name ∷ []) idents clean.1 in
-    (
-      (not_true (contains before ident.name)
-      (holds (not (contains before ident.name)) (wrong DUPLICATE_NAME) none.0), rest.0),
+    let rest = each_file outer (before ++ ident.name ∷ []) idents clean.1 in (
+      (
+        not_true (contains before ident.name)
+            (holds (not (contains before ident.name)) (wrong DUPLICATE_NAME) none.0),
+        rest.0,
+      ),
       (file_name outer ident.name entity refl none.1, rest.1),
     )
 
@@ -91,11 +95,11 @@ abbrev pub number_named : List Variable → List ℕ → Option ℕ
 number_named globals name = position (λ found. bytes_eq found.name name) globals
 
 pub record IsNumber (found : List Named) (first : ℕ) (globals : List Variable) (name : List ℕ) (number : ℕ) : Type 0
-    where
-  pub variable : Variable
-  pub there : slice_get globals number ≡ Some variable
-  pub named : variable.name ≡ name
-  pub stands : entity_in found name ≡ Some (slot_of (first + number) variable)
+  where
+    pub variable : Variable
+    pub there : slice_get globals number ≡ Some variable
+    pub named : variable.name ≡ name
+    pub stands : entity_in found name ≡ Some (slot_of (first + number) variable)
 
 some_at : {A : Type 0} (found : List A) (number : ℕ) → number < length found
     → (each : A) × (slice_get found number ≡ Some each)

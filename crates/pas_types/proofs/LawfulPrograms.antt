@@ -1,9 +1,11 @@
 -- The typed program of a program without faults is lawful.
-use Rattle.std.proofs.Common.{◌≡◌, refl, sym, ap, subst, ◌∙◌, ℕ, suc, ◌+◌, ◌<◌, arith, true, List, [], ◌∷◌, ◌++◌, length}
+use Rattle.std.proofs.Common.{◌≡◌, refl, sym, ap, subst, ◌∙◌, ℕ, suc, ◌+◌, ◌<◌, arith, true, List, [], ◌∷◌, ◌++◌}
+use Rattle.std.proofs.Common.{length}
 use Rattle.std.proofs.Common.{ap₂, append_assoc, ◌||◌}
 use Rattle.std.proofs.lemmas.List.Folds.{list_any-append}
 use Rattle.std.proofs.Common.{map, append-nil, Option, Some, None, IfSome, IsSome, All, find, ◌==◌}
-use Rattle.std.specs.Prelude.{⊤, fold, slice_get, filter, flat_map, option_to_list, position, if◌then◌else◌, Bool, false}
+use Rattle.std.specs.Prelude.{⊤, fold, slice_get, filter, flat_map, option_to_list, position, if◌then◌else◌, Bool}
+use Rattle.std.specs.Prelude.{false}
 use Rattle.std.specs.Str.{bytes_eq}
 use Rattle.std.proofs.lemmas.Option.{none-some, same_Some}
 use Rattle.std.proofs.lemmas.List.{length-append, length-map}
@@ -29,7 +31,8 @@ use Rattle.pas_types.specs.Scopes.{KnownRoutine, Outer, contains, standard_names
 use Rattle.pas_types.specs.TypeForms.{form_of}
 use Rattle.pas_types.specs.Labels.{labels_of_list}
 use Rattle.pas_types.specs.Declarations as declared
-use Rattle.pas_types.specs.Declarations.{Stage, program_scopes, label_marks, rows_of, constant_row, type_row, global_row}
+use Rattle.pas_types.specs.Declarations.{Stage, program_scopes, label_marks, rows_of, constant_row, type_row}
+use Rattle.pas_types.specs.Declarations.{global_row}
 use Rattle.pas_types.specs.Statements.{statements_of}
 use Rattle.pas_types.specs.Routines.{label_missing, RoutineStage, routines_of}
 use Rattle.pas_types.specs.NameViews.{with_name}
@@ -399,6 +402,7 @@ pub means_lawful : (program : Program) → AreHeld (program_words program) → (
 unfolding checked_of
 means_lawful program held meaning means =
     let outer : Outer = (routines program held).outer in
-    let found = some_of (λ bodies statements. made_of program held means.0 bodies statements) (routines program held).bodies
+    let found = some_of (λ bodies statements. made_of program held means.0 bodies statements) (routines program
+        held).bodies
     (list program held).value meaning means.1 in
     subst IsLawful found.4 (made_lawful program held means.0 found.0 found.1 found.2 found.3)

@@ -22,7 +22,8 @@ use Rattle.pas_typed.specs.Typed.{Mode, Variable, Heading, Body, TypedProgram}
 use Rattle.pas_typed.specs.Lawful.{IsOrdinal, IsLawfulBody, AreDeclared}
 use Rattle.pas_typed.specs.Lawful as typed_law
 use Rattle.pas_typed.proofs.GrowthLemmas.{Stays, stays_behind, Grows, list_stays}
-use Rattle.pas_types.specs.Marks.{unless, Marks, quiet, no_token, shows, joined, Judged, known, both, checked, noted, faults_if}
+use Rattle.pas_types.specs.Marks.{unless, Marks, quiet, no_token, shows, joined, Judged, known, both, checked, noted}
+use Rattle.pas_types.specs.Marks.{faults_if}
 use Rattle.pas_types.specs.Scopes as scope
 use Rattle.pas_types.specs.declared.limits.TheConstants.{ROUTINE_LIMIT}
 use Rattle.pas_types.specs.Scopes.{Entity, KnownRoutine, Outer, Inner, Scopes, names_of, spellings_of, new_names}
@@ -261,8 +262,7 @@ more_routines outer found h is =
       types = stays_same outer.types;
       globals = stays_same outer.globals;
       headings = stays_mapped outer.routines (found ∷ []);
-    } in
-    (
+    } in (
       record {
         rows = h.rows;
         names = each_then (IsNamed (so_far outer)) (IsNamed (so_far now)) outer.names
@@ -400,8 +400,7 @@ with_body_lawful : (outer : Outer) (number : ℕ) → IsLawfulOuter outer
 with_body_lawful outer number h =
     let now : Outer = record outer { routines = spec.with_body number outer.routines } in
     let same : so_far outer ≡ so_far now =
-    ap (λ headings. record (so_far outer) { headings = headings }) (sym (headings_same number outer.routines)) in
-    (
+    ap (λ headings. record (so_far outer) { headings = headings }) (sym (headings_same number outer.routines)) in (
       record {
         rows = h.rows;
         names = each_then (IsNamed (so_far outer)) (IsNamed (so_far now)) outer.names
@@ -429,7 +428,8 @@ module _ (outer : Outer) (of_outer : IsLawfulOuter outer) (number : ℕ) (headin
   parameters_are : inside.variables ≡ heading.parameters
   parameters_are = by_known (slice_get outer.routines number) there
     where
-      by_known : (known : Option KnownRoutine) → option_map (λ (found : KnownRoutine). found.heading) known ≡ Some heading
+      by_known : (known : Option KnownRoutine) → option_map (λ (found : KnownRoutine). found.heading) known ≡ Some
+          heading
           → spec.parameters_known known ≡ heading.parameters
       by_known None is = absurd (none-some heading is)
       by_known (Some found) is = ap (λ (h : Heading). h.parameters) (same_Some found.heading heading is)
@@ -485,8 +485,7 @@ module _ (outer : Outer) (of_outer : IsLawfulOuter outer) (number : ℕ) (headin
       let is : LeavesInner outer inside (block_part rows) =
       local_rows_lawful outer inside rows of_outer inside_lawful rows_held rows_clean in
       let lawful : IsLawfulOuter (behind_of rows) =
-      more_rows_lawful outer (block_part rows).table is.grown of_outer in
-      (
+      more_rows_lawful outer (block_part rows).table is.grown of_outer in (
         lawful,
         record {
           types = is.grown.rows;
@@ -531,7 +530,8 @@ block_of_lawful outer found sort labels rows body heads rows_held list_held clea
     }
 
 by_body : (outer : Outer) (found : HeadingStage) (sort : Sort) (body : tree.Body)
-    → (IsClean found.marks → Heads outer found) → AreHeld (body_words body) → IsClean (spec.routine_by found sort body).marks
+    → (IsClean found.marks → Heads outer found) → AreHeld (body_words body) → IsClean (spec.routine_by found sort
+    body).marks
     → LeavesRoutine outer (spec.routine_by found sort body)
 by_body outer found sort (tree.forward line) heads held clean =
     let is : Heads outer found =

@@ -179,7 +179,8 @@ module _ (scopes : Scopes) (lawful : AreLawful scopes) where
       let parts : Each IsClean (left.marks ∷ quiet ∷ right.marks ∷ []) =
       joined_clean (left.marks ∷ quiet ∷ right.marks ∷ []) clean in
       assignment_by left.value value
-      (IfSome_then left.value (checked_if IsTarget (spec.assigned_only table) target at parts.0) (λ found is. is.0)) h parts.1.1.0
+      (IfSome_then left.value (checked_if IsTarget (spec.assigned_only table) target at parts.0) (λ found is. is.0))
+      h parts.1.1.0
 
   -- lists
   pub listed_statement : (s : Statement) → IsStatement s → AreStatements (spec.list_of s)
@@ -352,7 +353,8 @@ module _ (scopes : Scopes) (lawful : AreLawful scopes) where
 
   -- what stands behind the elements of a case
   abbrev pub MakesCase : (Value → Arms → Statement) → Type 0
-  MakesCase make = (selector : Value) (arms : Arms) → IsNumber selector → AreArms arms → IsStatement (make selector arms)
+  MakesCase make = (selector : Value) (arms : Arms) → IsNumber selector → AreArms arms → IsStatement (make selector
+      arms)
 
   -- what makes something of one part more
   abbrev pub MakesElse : (Statement → Statement) → Type 0
@@ -420,7 +422,8 @@ module _ (scopes : Scopes) (lawful : AreLawful scopes) where
         joined_clean (quiet ∷ selector.marks ∷ quiet ∷ arms.marks ∷ rest.marks ∷ quiet ∷ []) clean in
         let behind : AreHeld (elements_words (n + 1) elements ++ (others_words (n + 1) tail ++ _ ∷ [])) =
         held_next (expr_words (n + 1) 0 e) _ _ held.1 in
-        known_of_if AreArms MakesOfArms IsStatement (known_of rest.value selector.value) arms.value (λ make found makes are. makes found are)
+        known_of_if AreArms MakesOfArms IsStatement (known_of rest.value selector.value) arms.value (λ make found
+        makes are. makes found are)
         (known_of_if IsNumber MakesCase MakesOfArms rest.value selector.value
         (λ make value makes is found are. makes value found is are)
         (others_lawful (n + 1) around (before ++ labels_in_elements elements) tail

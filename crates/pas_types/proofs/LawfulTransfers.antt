@@ -98,9 +98,10 @@ module _ (scopes : Scopes) (lawful : AreLawful scopes) where
   actuals_lawful n arguments held =
       let items : Separated tree.Argument = arguments.items in
       let within : AreHeld (separated (n + 1) k.Comma (argument_words (n + 1)) items) =
-      held_before (separated (n + 1) k.Comma (argument_words (n + 1)) items) _ held.1 in
-      (actual_lawful (n + 1) items.first (held_before (argument_words (n + 1) items.first) _ within),
-      more_lawful (n + 1) items.more (held_behind (argument_words (n + 1) items.first) _ within))
+      held_before (separated (n + 1) k.Comma (argument_words (n + 1)) items) _ held.1 in (
+        actual_lawful (n + 1) items.first (held_before (argument_words (n + 1) items.first) _ within),
+        more_lawful (n + 1) items.more (held_behind (argument_words (n + 1) items.first) _ within),
+      )
 
   abbrev IsGiven : Given → Type 0
   IsGiven argument = Lawfully IsValue argument.value
@@ -144,7 +145,8 @@ module _ (scopes : Scopes) (lawful : AreLawful scopes) where
       → Lawfully IsStatement (spec.halt_with table arguments)
   halt_lawful arguments h clean =
       let demand : Demand = only integer table in
-      known_if (value_law.Meets scopes lawful demand) IsStatement typed.halts (option_and_then values.first_value (values.given (demand ∷ []) arguments))
+      known_if (value_law.Meets scopes lawful demand) IsStatement typed.halts (option_and_then values.first_value
+      (values.given (demand ∷ []) arguments))
       (λ value is. (is.0, only_ordinal integer table value is.1))
       (value_law.first_lawful scopes lawful demand (values.given (demand ∷ []) arguments)
       (value_law.called_lawful scopes lawful (demand ∷ []) arguments h clean))
@@ -197,7 +199,8 @@ module _ (scopes : Scopes) (lawful : AreLawful scopes) where
       let demand : Demand = spec.demand_on_file extent in
       let argument : Judged Value = met demand (spec.without_width actual) in
       record {
-        file = λ clean. known_if (λ value. IsFilePlace file) IsFilePlace (λ value. file) argument.value (λ value found. found)
+        file = λ clean. known_if (λ value. IsFilePlace file) IsFilePlace (λ value. file) argument.value (λ value
+            found. found)
             (of_file argument.value (met_value demand clean.0));
         items = are;
       }
@@ -342,7 +345,8 @@ module _ (scopes : Scopes) (lawful : AreLawful scopes) where
       → Each (Lawfully IsTarget) (map (spec.read_item table found) actuals)
   all_read file found actuals is there h =
       subst (λ at. Each (Lawfully IsTarget) (map (spec.read_item table at) actuals)) (sym is)
-      (each_map IsActual (Lawfully IsTarget) (spec.read_item table (Some file)) actuals (λ actual one. read_item_lawful file actual there one) h)
+      (each_map IsActual (Lawfully IsTarget) (spec.read_item table (Some file)) actuals (λ actual one.
+      read_item_lawful file actual there one) h)
 
   abbrev IsStandard : Option Slot → Type 0
   IsStandard standard = IfSome standard (value_law.IsTextSlot scopes lawful)
@@ -411,9 +415,11 @@ module _ (scopes : Scopes) (lawful : AreLawful scopes) where
       → IsStatement (make file found))
       → IsTransfer transfer → Lawfully IsStatement (spec.write_text extent table transfer make)
   text_lawful extent transfer make gives is clean =
-      made_lawful (IsLawfulItem program variables) extent transfer (map (λ actual. spec.item_on_text table actual actual.text) transfer.items) make
+      made_lawful (IsLawfulItem program variables) extent transfer (map (λ actual. spec.item_on_text table actual
+      actual.text) transfer.items) make
       gives is
-      (λ file at of_file. each_map IsActual (Lawfully (IsLawfulItem program variables)) (λ actual. spec.item_on_text table actual actual.text) transfer.items
+      (λ file at of_file. each_map IsActual (Lawfully (IsLawfulItem program variables)) (λ actual. spec.item_on_text
+      table actual actual.text) transfer.items
       (λ actual one. item_on_text_lawful actual actual.text one) is.items) clean
 
   component_lawful : (type component : PasType) (actual : Actual) → component_of table type ≡ Some component
@@ -423,8 +429,11 @@ module _ (scopes : Scopes) (lawful : AreLawful scopes) where
       let demand : Demand = spec.component_demand table (Some component) in
       IfSome_then (met demand (spec.without_width actual)).value
       (value_law.met_lawful scopes lawful demand (spec.without_width actual) h.value clean)
-      (λ value is. (is.0, ordinal_taken table component (type_of value)
-      (component-ordinal table type component lawful.rows at) (takes table component value is.1)))
+      (λ value is. (
+        is.0,
+        ordinal_taken table component (type_of value)
+            (component-ordinal table type component lawful.rows at) (takes table component value is.1),
+      ))
 
   components_lawful : (type : PasType) (component : Option PasType) (actuals : List Actual)
       → component_of table type ≡ component → IsSome component → Each IsActual actuals
@@ -432,7 +441,8 @@ module _ (scopes : Scopes) (lawful : AreLawful scopes) where
       (map (λ actual. met (spec.component_demand table component) (spec.without_width actual)) actuals)
   components_lawful type None actuals at there h = absurd (cc)
   components_lawful type (Some component) actuals at there h =
-      each_map IsActual (Lawfully IsNumber) (λ actual. met (spec.component_demand table (Some component)) (spec.without_width actual)) actuals
+      each_map IsActual (Lawfully IsNumber) (λ actual. met (spec.component_demand table (Some component))
+      (spec.without_width actual)) actuals
       (λ actual one. component_lawful type component actual at one) h
 
   bytes_lawful : (transfer : Transfer) (component : Option PasType) → IsTransfer transfer
@@ -510,7 +520,8 @@ module _ (scopes : Scopes) (lawful : AreLawful scopes) where
       → ((file : Place) → IsFilePlace file → IsStatement (make file)) → IsStandard standard
       → Lawfully IsStatement (spec.line_alone (spec.on_standard standard []) make)
   line_lawful standard make gives on clean =
-      known_if IsFilePlace IsStatement make (spec.on_standard standard []).file gives (standard_file_lawful standard [] on)
+      known_if IsFilePlace IsStatement make (spec.on_standard standard []).file gives (standard_file_lawful standard
+      [] on)
 
   procedure_alone_lawful : (found : Procedure) → Lawfully IsStatement (spec.procedure_alone scopes found)
   procedure_alone_lawful scope.read clean = tt

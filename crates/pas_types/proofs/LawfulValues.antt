@@ -270,10 +270,11 @@ module _ (scopes : Scopes) (lawful : AreLawful scopes) where
       by_field : (field : Option Field) → slice_get found number ≡ field
           → IfSome (known (λ field. typed.field place number field.type) field) IsPlace
       by_field None there = tt
-      by_field (Some field) there =
-          (at,
-          ap (option_and_then (λ found. option_map (λ field. field.type) (slice_get found number))) is
-          ∙ ap (option_map (λ (field : Field). field.type)) there)
+      by_field (Some field) there = (
+        at,
+        ap (option_and_then (λ found. option_map (λ field. field.type) (slice_get found number))) is
+            ∙ ap (option_map (λ (field : Field). field.type)) there,
+      )
 
   field_in_lawful : (name : List ℕ) (place : Place) (found : Option (List Field))
       → fields_of table (type_of_place place) ≡ found → IsPlace place
@@ -296,7 +297,8 @@ module _ (scopes : Scopes) (lawful : AreLawful scopes) where
       let found : Each IsClean (whole_record.marks ∷ quiet ∷ part.marks ∷ []) =
       joined_clean (whole_record.marks ∷ quiet ∷ part.marks ∷ []) clean in
       field_by_lawful ident.name whole_record.value
-      (IfSome_then whole_record.value (checked_if IsPlace (spec.record_only table) before at found.0) (λ place is. is.0))
+      (IfSome_then whole_record.value (checked_if IsPlace (spec.record_only table) before at found.0) (λ place is.
+      is.0))
 
   buffer_at_lawful : (place : Place) (component : Option PasType)
       → component_of table (type_of_place place) ≡ component → IsPlace place
@@ -390,9 +392,14 @@ module _ (scopes : Scopes) (lawful : AreLawful scopes) where
       (parameter ∷ parameters)
   one_passed parameter value others parameters (inl by_value) is met h =
       subst (λ mode. ArePassed program variables (spec.passed_by mode parameter.type value others)
-      (parameter ∷ parameters)) (sym by_value)
-      (by_value, refl, is, takes table parameter.type value
-      (sym (ap (λ mode. spec.demand_of_mode table mode parameter.type value) by_value) ∙ met), h)
+      (parameter ∷ parameters)) (sym by_value) (
+        by_value,
+        refl,
+        is,
+        takes table parameter.type value
+            (sym (ap (λ mode. spec.demand_of_mode table mode parameter.type value) by_value) ∙ met),
+        h,
+      )
   one_passed parameter value others parameters (inr by_name) is met h =
       subst (λ mode. ArePassed program variables (spec.passed_by mode parameter.type value others)
       (parameter ∷ parameters)) (sym by_name)
@@ -456,7 +463,8 @@ module _ (scopes : Scopes) (lawful : AreLawful scopes) where
       (lawful.headings number) h clean
   call_lawful arguments (Some (scope.function found)) h clean =
       let demand : Demand = spec.function_demand table found in
-      known_if (Meets demand) IsValue (typed.applied found) (option_and_then spec.first_value (spec.given (demand ∷ []) arguments))
+      known_if (Meets demand) IsValue (typed.applied found) (option_and_then spec.first_value (spec.given (demand ∷
+      []) arguments))
       (λ value is. (is.0, applied_ordinal found value is.1))
       (first_lawful demand (spec.given (demand ∷ []) arguments) (called_lawful (demand ∷ []) arguments h clean))
   call_lawful arguments (Some (scope.file_test test)) h clean =
@@ -542,7 +550,8 @@ module _ (scopes : Scopes) (lawful : AreLawful scopes) where
       → ((one other : Value) → IsValue one → IsValue other → one_demand one ≡ [] → other_demand other ≡ []
       → left.value ≡ Some one → IsValue (make one other))
       → HasWords left → HasWords right → Lawfully IsValue left → Lawfully IsValue right
-      → Lawfully IsValue (judged (joined ((noted one_demand left).marks ∷ quiet ∷ (noted other_demand right).marks ∷ []))
+      → Lawfully IsValue (judged (joined ((noted one_demand left).marks ∷ quiet ∷ (noted other_demand right).marks ∷
+      []))
       (both make (noted one_demand left).value (noted other_demand right).value))
   twice_lawful one_demand other_demand make left right gives some other_some h k clean =
       let parts : Each IsClean ((noted one_demand left).marks ∷ quiet ∷ (noted other_demand right).marks ∷ []) =

@@ -1,5 +1,6 @@
 -- Behind declarations that show no fault the name of each variable of the program stands for it.
-use Rattle.std.proofs.Common.{◌≡◌, refl, sym, ap, subst, ◌∙◌, ℕ, suc, ◌+◌, arith, ◌||◌, Bool, true, false, not, List, []}
+use Rattle.std.proofs.Common.{◌≡◌, refl, sym, ap, subst, ◌∙◌, ℕ, suc, ◌+◌, arith, ◌||◌, Bool, true, false, not, List}
+use Rattle.std.proofs.Common.{[]}
 use Rattle.std.proofs.Common.{◌∷◌, ◌++◌, length, map, append_assoc, append-nil, Option, Some, None, IfSome, IsSome}
 use Rattle.std.proofs.Common.{is_some, find}
 use Rattle.std.specs.Prelude.{⊤, if◌then◌else◌, option_map, flat_map}
@@ -136,8 +137,7 @@ pub new_linked : (found : List Named) (number : ℕ) (variables : List Variable)
 new_linked found number [] fresh = tt
 new_linked found number (first ∷ variables) fresh =
     let slot : Named = names first.name (slot_of number first) in
-    let more : List Named = spec.named_slots typed.global (suc number) variables in
-    (
+    let more : List Named = spec.named_slots typed.global (suc number) variables in (
       entity_behind found (slot ∷ more) first.name
           ∙ (ap (λ one. or_else one (entity_in (slot ∷ more) first.name))
           (not_there (entity_in found first.name) (sym fresh.0 ∙ there_is found first.name))
@@ -193,7 +193,8 @@ global_row_links outer found of_outer held clean h =
 module _ {A : Type 0} (words : A → List Word) (row : Outer → A → Stage) (declares : Declares words row)
     (links : Links words row) where
   more_link : (outer : Outer) (found : List A) → IsLawfulOuter outer → AreHeld (flat_map words found)
-      → IsClean (spec.more_rows row outer found).marks → IsLinked outer → IsLinked (spec.more_rows row outer found).outer
+      → IsClean (spec.more_rows row outer found).marks → IsLinked outer → IsLinked (spec.more_rows row outer
+      found).outer
   more_link outer [] of_outer held clean h = h
   more_link outer (first ∷ more) of_outer held clean h =
       let before : Stage = row outer first in
