@@ -15,4 +15,3 @@ pub mod ScopeViews
 pub mod NamesInside
 pub mod NameSetInside
 pub mod inner
-pub mod Probe

@@ -22,7 +22,6 @@ mod name_sets;
 mod names;
 mod new_names;
 mod noting;
-mod probe;
 mod results;
 mod routines;
 mod scopes;
