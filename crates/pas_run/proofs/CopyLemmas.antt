@@ -32,14 +32,12 @@ use Rattle.pas_run.specs.declared.layouts.Layout.{Layout}
 use Rattle.pas_run.specs.declared.layouts.Layouts.{Layouts}
 use Rattle.pas_run.specs.declared.ends.Stop.{Stop}
 use Rattle.pas_run.specs.declared.ends.Stop.TheVariants as stop
-use Rattle.pas_run.specs.declared.spots.Spot.{Spot as CodeSpot}
-use Rattle.pas_run.specs.declared.spots.Spot.TheVariants as code
 use Rattle.pas_run.specs.inner.FlatStore.{address_of, datum_cells, flat_store, cells_of, with_cell, cells_at, over}
 use Rattle.pas_run.specs.inner.FlatStore.{Activations, with_cells, behind_by}
 use Rattle.pas_run.specs.inner.MachineState.{MachineState, IsRun}
 use Rattle.pas_run.specs.inner.Scenes.{IsAt}
 use Rattle.pas_run.specs.inner.Doings.{Any, Done, Does, stored_at}
-use Rattle.pas_run.specs.inner.Evaluating.{value_of, place_at, MeansSpot, IsBehind, IsCount}
+use Rattle.pas_run.specs.inner.Evaluating.{value_of, place_at, IsBehind, IsCount}
 use Rattle.pas_run.specs.inner.Copying.{IsWhole, IsFound, AreCells, reference_to, held_at, assignment_of}
 use Rattle.pas_run.proofs.DoesLemmas.{does_stop, does_next, does_question}
 use Rattle.pas_run.proofs.OperandLemmas.{does_no_memory}

@@ -34,7 +34,6 @@ use Rattle.pas_meaning.proofs.OnwardLemmas.{goes_pure}
 use Rattle.pas_run.specs.inner.Doings.{Same, IsNumber, Does, Answers}
 use Rattle.pas_run.specs.inner.Evaluating.{value_of, place_at, twice, Evaluates, MeansSpot, IsBehind, Selects}
 use Rattle.pas_run.specs.inner.Evaluating.{IsElement}
-use Rattle.pas_run.specs.declared.spots.Spot.TheVariants as code
 use Rattle.pas_run.specs.inner.MachineState.{CountFailures}
 use Rattle.pas_run.proofs.DoesLemmas.{does_early, does_pure}
 use Rattle.pas_run.proofs.OperandLemmas.{operand_stop, operand_next, once_stop, once_next, twice_stop}
@@ -57,7 +56,7 @@ use Rattle.pas_typed.specs.Lawful.{IsOrdinal, ArePassed}
 use Rattle.pas_typed.proofs.ValueViews.{passed_view-Value, passed_view-Reference}
 use Rattle.pas_run.specs.declared.arguments.Argument.{Argument as CodeArgument}
 use Rattle.pas_run.specs.declared.spots.Spot.{Spot as CodeSpot}
-use Rattle.pas_run.specs.inner.Copying.{IsWhole, IsFound, AreCells, held_at, Copies}
+use Rattle.pas_run.specs.inner.Copying.{IsFound, AreCells, held_at, Copies}
 use Rattle.pas_run.specs.inner.Calling.{AreGiven, IsOneGiven, arguments_of, PassesOne}
 use Rattle.std.proofs.Common.{ℕ}
 use Rattle.pas_run.proofs.SelectorLemmas.{does_stopped}

@@ -1,14 +1,10 @@
 use Rattle.std.proofs.Common.{◌∙◌}
-use Rattle.std.proofs.Common.{subst, Ok}
 use Rattle.std.proofs.lemmas.Result.{err_from_is_err_and}
 use Rattle.pas_typed.specs.TypeOf.{type_of_place}
 use Rattle.pas_typed.specs.TypedViews.{value_view, place_view}
 use Rattle.pas_typed.specs.TypedViews.{program_view}
-use Rattle.pas_run.specs.inner.Doings.{Does}
-use Rattle.pas_run.specs.inner.Evaluating.{place_at, MeansSpot}
 use Rattle.pas_run.proofs.DoesLemmas.{does_early}
 use Rattle.pas_typed.specs.TypeOf.{type_of}
-use Rattle.pas_run.specs.declared.spots.Spot.{Spot as CodeSpot}
 use Rattle.pas_run.specs.inner.Doings.{Any}
 use Rattle.pas_run.specs.inner.Copying.{assignment_of}
 use Rattle.pas_run.proofs.CopyLemmas.{assign_no_value, assign_no_place, assign_next}
