@@ -974,7 +974,8 @@ arguments-loop-one-preserved g t c =
           (sym c.as_slice-one-items.ensures) are) in
           subst₂ (λ (parameters : List Variable) (passed : List code_passed.Passed).
           Does most kinds kinds (AreGiven program variables parameters)
-          (arguments_of program most (passed_views passed)) c.args.self.now c.argument.new.self (Ok c.push.new.self)) (sym found.more)
+          (arguments_of program most (passed_views passed)) c.args.self.now c.argument.new.self (Ok c.push.new.self))
+          (sym found.more)
           (sym (more_at items i item c.loop-one-test.true c.one-item.is))
           (subst (λ (founds : List CodeArgument). Does most kinds kinds
           (AreGiven program variables (take i parameters ++ found.parameter ∷ []))
