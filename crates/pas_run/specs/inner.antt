@@ -4,3 +4,4 @@ pub mod MachineState
 pub mod Doings
 pub mod Scenes
 pub mod Evaluating
+pub mod Running
