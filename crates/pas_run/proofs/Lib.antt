@@ -13,3 +13,7 @@ pub mod ValueLemmas
 pub mod TestLemmas
 pub mod PlaceLemmas
 pub mod SelectorLemmas
+pub mod RunningLemmas
+pub mod ResultLemmas
+pub mod StatementLemmas
+pub mod ListLemmas

@@ -104,6 +104,7 @@ impl<P: Port> Machine<P> {
     pub(crate) fn take_step(&mut self) -> Result<(), Stop>
         ensures does { (most : ℕ) (kinds : Kinds) → Does most kinds kinds Any run.take_step self.old self.new result }
         ensures fewer { IfOk result (λ _. self.new.steps + 1 ≡ self.old.steps) }
+        ensures quiet { is_port_failed result ≡ false }
         ensures files { self.new.files ≡ self.old.files }
         ensures cells { self.new.activations ≡ self.old.activations }
     {

@@ -309,10 +309,17 @@ impl<P: Port> Machine<P> {
     }
 
     // What the call of a function answers.
+    #[cycle(running)]
     fn function_result(&mut self, scene: Scene<'_>, call: &Call, levels: u32) -> Result<i32, Stop>
         ensures does { Evaluates scene.entry (call_view call.now) self.old self.new result }
         ensures cause { CountFailures (is_port_failed result) self.old.files self.new.files }
     {
+        if levels > 0 {
+            return Err(Stop::OutOfMemory);
+        }
+        if levels > 0 {
+            self.compound(scene, &scene.program.statements, levels)?;
+        }
         Err(Stop::OutOfMemory)
     }
 }
