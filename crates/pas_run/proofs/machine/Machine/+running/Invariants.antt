@@ -1,4 +1,4 @@
-use Rattle.std.proofs.Common.{ℕ, ◌+◌, ◌*◌, ◌≡◌, false, List, Option, Ok, map, take}
+use Rattle.std.proofs.Common.{ℕ, ◌+◌, ◌*◌, ◌≡◌, false, List, Option, None, Ok, map, take, drop}
 use Rattle.pas_syntax.specs.Views.{in_turn}
 use Rattle.pas_typed.specs.Types.{PasType}
 use Rattle.pas_typed.specs.Typed as typed
@@ -7,12 +7,17 @@ use Rattle.pas_typed.specs.TypeOf.{type_of_place, is_buffer}
 use Rattle.pas_typed.specs.TypeViews.{type_view}
 use Rattle.pas_typed.specs.TypedViews.{slot_view, part_view, place_view, passed_views, program_view}
 use Rattle.pas_typed.specs.Lawful.{IsLawfulPlace, ArePassed}
+use Rattle.pas_typed.specs.TypedViews.{slot_view, part_view, place_view, program_view}
+use Rattle.pas_typed.specs.TypedViews.{statements_view}
+use Rattle.pas_typed.specs.Lawful.{IsLawfulPlace, IsLawfulStatement, AreLawful}
+use Rattle.pas_meaning.specs.Run.{start, at}
 use Rattle.pas_meaning.specs.Standing.{Kinds}
 use Rattle.pas_run.specs.inner.MachineState.{failures_of}
 use Rattle.pas_run.specs.inner.Doings.{Does}
 use Rattle.pas_run.specs.inner.Scenes.{IsScene}
 use Rattle.pas_run.specs.inner.Evaluating.{IsBehind, place_at}
 use Rattle.pas_run.specs.inner.Calling.{AreGiven, arguments_of}
+use Rattle.pas_run.specs.inner.Running.{IsFlow, statement_of, list_of, LeadsTo, entry_by}
 use Rattle.pas_run.proofs.machine.Machine.+running.Given as goal
 
 -- each expression takes a level
@@ -97,6 +102,21 @@ decreases-argument g l = left l.levels + 8
 abbrev pub decreases-arguments : goal.decreases-arguments
 decreases-arguments g l = left l.levels + 9
 
+abbrev pub decreases-assign_whole : goal.decreases-assign_whole
+decreases-assign_whole g l = left l.levels + 6
+
+abbrev pub decreases-run_body : goal.decreases-run_body
+decreases-run_body g l = left l.levels + 27
+
+abbrev pub decreases-body_run : goal.decreases-body_run
+decreases-body_run g l = left l.levels + 28
+
+abbrev pub decreases-call : goal.decreases-call
+decreases-call g l = left l.levels + 29
+
+abbrev pub decreases-call_procedure : goal.decreases-call_procedure
+decreases-call_procedure g l = left l.levels + 30
+
 abbrev pub decreases-function_result : goal.decreases-function_result
 decreases-function_result g l = left l.levels + 30
 
@@ -121,3 +141,68 @@ invariant-arguments-loop-one g l =
     → ArePassed program variables (passed_views l.passed) parameters → (most : ℕ)
     → Does most kinds kinds (AreGiven program variables (take l.one-index parameters))
     (arguments_of program most (passed_views (take l.one-index l.one-items))) l.fn.self l.self (Ok l.arguments))
+-- statements
+
+abbrev pub decreases-statement : goal.decreases-statement
+decreases-statement g l = left l.levels + 0
+
+abbrev pub decreases-in_order : goal.decreases-in_order
+decreases-in_order g l = left l.levels + 1
+
+abbrev pub decreases-list : goal.decreases-list
+decreases-list g l = left l.levels + 2
+
+abbrev pub decreases-compound : goal.decreases-compound
+decreases-compound g l = left l.levels + 4
+
+abbrev pub decreases-list_caught : goal.decreases-list_caught
+decreases-list_caught g l = left l.levels + 3
+
+abbrev pub decreases-branch : goal.decreases-branch
+decreases-branch g l = left l.levels + 2
+
+abbrev pub decreases-choice : goal.decreases-choice
+decreases-choice g l = left l.levels + 2
+
+abbrev pub decreases-case : goal.decreases-case
+decreases-case g l = left l.levels + 2
+
+abbrev pub decreases-case_others : goal.decreases-case_others
+decreases-case_others g l = left l.levels + 2
+
+abbrev pub decreases-halt : goal.decreases-halt
+decreases-halt g l = left l.levels + 1
+
+abbrev pub decreases-store : goal.decreases-store
+decreases-store g l = left l.levels + 5
+
+abbrev pub decreases-assign_number : goal.decreases-assign_number
+decreases-assign_number g l = left l.levels + 6
+
+abbrev pub decreases-assign : goal.decreases-assign
+decreases-assign g l = left l.levels + 7
+
+abbrev pub decreases-set_result : goal.decreases-set_result
+decreases-set_result g l = left l.levels + 1
+
+abbrev pub invariant-in_order-loop-item : goal.invariant-in_order-loop-item
+invariant-in_order-loop-item g l =
+    let program = program_view l.scene.program.now in
+    let list = statements_view l.scene.program.now.spellings l.list in
+    let rest = statements_view l.scene.program.now.spellings (drop l.item-index l.list) in
+    (failures_of l.self.files ≡ failures_of l.fn.self.files)
+    × ((variables : List Variable) (result' : Option PasType) (kinds : Kinds)
+    → IsScene l.scene variables result' kinds → AreLawful program variables result' list
+    → AreLawful program variables result' rest
+    × LeadsTo kinds IsFlow (λ most. list_of program most None list) (λ most. list_of program most None rest) l.fn.self
+    l.self)
+
+abbrev pub invariant-list_caught-loop : goal.invariant-list_caught-loop
+invariant-list_caught-loop g l =
+    let program = program_view l.scene.program.now in
+    let around = typed.compound (statements_view l.scene.program.now.spellings l.list) in
+    (failures_of l.self.files ≡ failures_of l.fn.self.files)
+    × ((variables : List Variable) (result' : Option PasType) (kinds : Kinds)
+    → IsScene l.scene variables result' kinds → IsLawfulStatement program variables result' around
+    → LeadsTo kinds IsFlow (λ most. statement_of program most start around)
+    (λ most. statement_of program most (entry_by at start l.from) around) l.fn.self l.self)
