@@ -17,3 +17,5 @@ pub mod RunningLemmas
 pub mod ResultLemmas
 pub mod StatementLemmas
 pub mod ListLemmas
+pub mod LoopLemmas
+pub mod TransferLemmas

@@ -15,6 +15,7 @@ mod selectors;
 mod spots;
 mod statements;
 mod stubs;
+mod transfers;
 mod values;
 
 pub use files::{Ahead, FileState, RunFile, Usage};
