@@ -21,3 +21,6 @@ pub mod RunningLemmas
 pub mod ResultLemmas
 pub mod StatementLemmas
 pub mod ListLemmas
+pub mod LoopLemmas
+pub mod TransferLemmas
+pub mod LineLemmas

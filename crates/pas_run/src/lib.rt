@@ -17,7 +17,7 @@ mod refusals;
 mod selectors;
 mod spots;
 mod statements;
-mod stubs;
+mod transfers;
 mod values;
 
 pub use files::{Ahead, FileState, RunFile, Usage};

@@ -9,12 +9,12 @@ use Rattle.pas_typed.specs.Typed.{Arms, TypedProgram}
 use Rattle.pas_typed.specs.TypeOf.{type_of_place}
 use Rattle.pas_typed.specs.TypedViews.{slot_view, value_view, program_view}
 use Rattle.pas_typed.specs.Lawful.{IsLawfulStatement, AreLawful, AreLawfulArms, IsLawfulFile, IsLawfulTarget}
-use Rattle.pas_typed.specs.Lawful.{IsLawfulNumber}
+use Rattle.pas_typed.specs.Lawful.{IsLawfulNumber, IsLawfulItem}
 use Rattle.pas_meaning.specs.declared.errors.TheConstants.{CALL_LIMIT}
 use Rattle.pas_meaning.specs.Files as files
-use Rattle.pas_meaning.specs.Outcome.{Doing, ◌>>=◌, ◌>>◌, answered, change}
+use Rattle.pas_meaning.specs.Outcome.{Doing, pure, ◌>>=◌, ◌>>◌, answered, change, take_step}
 use Rattle.pas_meaning.specs.FileSteps.{change_file, append}
-use Rattle.pas_meaning.specs.Store.{Datum, holds, Store, fits}
+use Rattle.pas_meaning.specs.Store.{Datum, holds, Store, home_of, stored, fits}
 use Rattle.pas_meaning.specs.Operands.{operand}
 use Rattle.pas_meaning.specs.Run as meaning
 use Rattle.pas_meaning.specs.Run.{Flow, Entry, Doings, start, within, file_variable, on_file, with_result}
@@ -282,3 +282,73 @@ abbrev pub WritesBytes : Scene → Place → List Value → MachineState → Mac
 WritesBytes scene place written =
     Transfers scene (typed.writes_bytes place written) place (λ most file. bytes_of (program_view scene.program.now)
     most (components_of (program_view scene.program.now).types place) file written)
+
+-- a loop under way; and something that is done where this loop is lawful
+abbrev pub loop_of : TypedProgram → ℕ → CodeLoop → Statements → Doing Store Flow
+loop_of program most kind list = statement_of program most (turning kind) (loop_view kind list)
+
+abbrev pub RunsLoop : Scene → CodeLoop → Statements → (ℕ → Doing Store Flow) → MachineState → MachineState
+    → Result CodeFlow Stop → Type 0
+RunsLoop scene kind list doing =
+    RunsBy scene (λ variables result.
+    IsLawfulStatement (program_view scene.program.now) variables result (loop_view kind list)) IsFlow doing
+
+-- what tells whether a turn is the last one; and a `for`, whose variable becomes undefined behind its turns
+module _ (program : TypedProgram) (most : ℕ) where
+  abbrev pub until_of : Value → Doing Store Flow
+  until_of = meaning.until (Some CALL_LIMIT) program (within (Some CALL_LIMIT) program most)
+
+  abbrev pub counted_of : Slot → Way → ℤ → Doing Store Flow
+  counted_of = meaning.counted (Some CALL_LIMIT) program (within (Some CALL_LIMIT) program most)
+
+  abbrev pub next_stored_of : Slot → Way → ℤ → Doing Store Flow
+  next_stored_of = meaning.next_value_stored (Some CALL_LIMIT) program (within (Some CALL_LIMIT) program most)
+
+  abbrev pub for_from_of : Slot → Way → ℤ → ℤ → Doing Store Flow → Doing Store Flow
+  for_from_of = meaning.for_from (Some CALL_LIMIT) program (within (Some CALL_LIMIT) program most)
+
+abbrev pub stepped : Doing Store Flow → Doing Store Flow
+stepped doing = take_step >> doing
+
+abbrev pub forgetting : Slot → Doing Store Flow → Doing Store Flow
+forgetting slot turns =
+    turns >>= (λ flow. meaning.go_on flow (change (meaning.forget slot) >> pure meaning.next))
+
+abbrev pub between_of : TypedProgram → Slot → ℤ → ℤ → Doing Store Flow → Doing Store Flow
+between_of program slot first last turns = do
+  low ← answered (fits program.types slot.type (holds first))
+  high ← answered (fits program.types slot.type (holds last))
+  change (λ store. stored (home_of slot store) low store)
+  forgetting slot turns
+
+-- one item that is read or written, a width, and a field of it
+module _ (program : TypedProgram) (most : ℕ) where
+  abbrev pub read_item_of : PasType → Slot → Place → Doing Store (Unit {0})
+  read_item_of = meaning.read_item (Some CALL_LIMIT) program (within (Some CALL_LIMIT) program most)
+
+  abbrev pub write_byte_of : PasType → Slot → Value → Doing Store (Unit {0})
+  write_byte_of = meaning.write_byte (Some CALL_LIMIT) program (within (Some CALL_LIMIT) program most)
+
+  abbrev pub write_item_of : Slot → Item → Doing Store (Unit {0})
+  write_item_of = meaning.write_item (Some CALL_LIMIT) program (within (Some CALL_LIMIT) program most)
+
+  abbrev pub width_of : ℕ → Option Value → Doing Store ℤ
+  width_of = meaning.width_or (Some CALL_LIMIT) program (within (Some CALL_LIMIT) program most)
+
+  abbrev pub field_of : Slot → (ℕ → List ℕ) → ℤ → Doing Store (Unit {0})
+  field_of = meaning.write_field (Some CALL_LIMIT) program (within (Some CALL_LIMIT) program most)
+
+abbrev pub WritesItem : Scene → Slot → Item → MachineState → MachineState → Result (Unit {0}) Stop → Type 0
+WritesItem scene slot item =
+    RunsBy scene (λ variables result. IsFileSlot (program_view scene.program.now) variables slot
+    × IsLawfulItem (program_view scene.program.now) variables item) Any
+    (λ most. write_item_of (program_view scene.program.now) most slot item)
+
+-- what is read into places, and the rest of a line passed; and what is written, and a line ended
+abbrev pub read_line_of : TypedProgram → ℕ → PasType → Slot → List Place → Doing Store (Unit {0})
+read_line_of program most type slot places =
+    reads_of program most type slot places >> on_file slot (λ number. change_file number files.readln)
+
+abbrev pub write_line_of : TypedProgram → ℕ → Slot → List Item → Doing Store (Unit {0})
+write_line_of program most slot written =
+    writes_of program most slot written >> on_file slot (λ number. append number files.writeln)
