@@ -1127,6 +1127,7 @@ function_result-returns-clause-does g t c =
     c.in_ok-cell.cell c.result_in.result (ap is_some is.0.2)
     (λ values are. c.in_ok-cell.ensures.does variables result kinds at is.0.0 is.0.1 values are most)
     c.result_in.ensures.number)
+
 -- statements
 
 pub store-returns-in_err-spot-clause-does : goal.store-returns-in_err-spot-clause-does
@@ -3078,7 +3079,7 @@ writes-returns-clause-does g t c variables result kinds at is most =
     (c.write_items.ensures.does variables result kinds at (
       file_is,
       subst (λ (xs : List CodeItem). All (IsLawfulItem program variables)
-      (map (item_view c.args.scene.program.now.spellings) xs))
+          (map (item_view c.args.scene.program.now.spellings) xs))
           (sym c.as_slice.ensures) is.1,
     ) most)))
 
@@ -3583,7 +3584,7 @@ writes_line-returns-clause-does g t c variables result kinds at is most =
     (c.write_line.ensures.does variables result kinds at (
       file_is,
       subst (λ (xs : List CodeItem). All (IsLawfulItem program variables)
-      (map (item_view c.args.scene.program.now.spellings) xs))
+          (map (item_view c.args.scene.program.now.spellings) xs))
           (sym c.as_slice.ensures) is.1,
     ) most)))
 
