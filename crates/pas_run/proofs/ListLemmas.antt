@@ -35,7 +35,8 @@ use Rattle.pas_run.specs.inner.Running.{flow_view, IsFlow, statement_of, list_of
 use Rattle.pas_run.specs.declared.loops.Turn.{Turn as CodeTurn}
 use Rattle.pas_run.specs.inner.Running.{ChoosesOne, entered_of, behind_of, looped_of, entry_by, IsTurn}
 use Rattle.pas_run.proofs.DoesLemmas.{does_stop, does_next, does_pure}
-use Rattle.pas_run.proofs.RunningLemmas.{leads_on, leads_next, leads_step, goes_of, goes_list_of, goes_below, go_over, done_stop}
+use Rattle.pas_run.proofs.RunningLemmas.{leads_on, leads_next, leads_step, goes_of, goes_list_of, goes_below, go_over}
+use Rattle.pas_run.proofs.RunningLemmas.{done_stop}
 
 -- a list from an item on
 pub from_item : {X : Type 0} (xs : List X) (i : ℕ) (x : X) → i < length xs → x ≡ get_or xs i x
@@ -279,7 +280,8 @@ module _ (program : TypedProgram) (kinds : Kinds) (list : Statements) (entry : �
       (Ok (flow.Jump label))
   unfolding entered_by
   jump_past is most =
-      subst (λ (found : Bool). Does most kinds kinds IsFlow (entered_by most found) before before (Ok (flow.Jump label)))
+      subst (λ (found : Bool). Does most kinds kinds IsFlow (entered_by most found) before before
+      (Ok (flow.Jump label)))
       (sym is) (does_pure most kinds IsFlow (flow.Jump label) (meaning.jump label) before refl)
 
 -- behind the list of a compound what is no jump is passed on

@@ -1,5 +1,6 @@
 -- Loops: their turns, and what tells whether a turn is the last one.
-use Rattle.std.proofs.Common.{◌≡◌, ℕ, zero, ℤ, List, [], refl, sym, ap, ◌∙◌, subst, Option, Some, None, Bool, true, false}
+use Rattle.std.proofs.Common.{◌≡◌, ℕ, zero, ℤ, List, [], refl, sym, ap, ◌∙◌, subst, Option, Some, None, Bool, true}
+use Rattle.std.proofs.Common.{false}
 use Rattle.std.proofs.Common.{Result, Ok, Err}
 use Rattle.std.specs.Prelude.{if◌then◌else◌}
 use Rattle.wb_ports.specs.PortState.{PortState}
@@ -16,8 +17,10 @@ use Rattle.pas_meaning.specs.Run as meaning
 use Rattle.pas_meaning.specs.Run.{Flow, within, part, store_at}
 use Rattle.pas_meaning.specs.Laws.{Goes}
 use Rattle.pas_meaning.specs.Standing.{Kinds}
-use Rattle.pas_meaning.proofs.OnwardLemmas.{goes_bind, goes_pure, goes_answered, goes_ask, goes_change, goes_then, goes_if}
-use Rattle.pas_meaning.proofs.GoesLemmas.{goes_on, goes_while_turn, goes_until, goes_repeat_turn, goes_for_turn, goes_counted}
+use Rattle.pas_meaning.proofs.OnwardLemmas.{goes_bind, goes_pure, goes_answered, goes_ask, goes_change, goes_then}
+use Rattle.pas_meaning.proofs.OnwardLemmas.{goes_if}
+use Rattle.pas_meaning.proofs.GoesLemmas.{goes_on, goes_while_turn, goes_until, goes_repeat_turn, goes_for_turn}
+use Rattle.pas_meaning.proofs.GoesLemmas.{goes_counted}
 use Rattle.pas_meaning.proofs.GoesLemmas.{goes_next_stored, goes_store, goes_for}
 use Rattle.pas_run.specs.declared.loops.Loop.{Loop as CodeLoop}
 use Rattle.pas_run.specs.declared.loops.Loop.TheVariants as loops
@@ -29,7 +32,8 @@ use Rattle.pas_run.specs.inner.Doings.{Any, Same, IsNumber, Does, Answers, store
 use Rattle.pas_run.specs.inner.Scenes.{IsCell}
 use Rattle.pas_run.specs.inner.Running.{flow_view, IsFlow, statement_of, list_of, looped_of, entry_by, loop_view}
 use Rattle.pas_run.specs.inner.Running.{turning, turn_at, turn_of}
-use Rattle.pas_run.specs.inner.Running.{until_of, counted_of, next_stored_of, for_from_of, between_of, forgetting, next_behind}
+use Rattle.pas_run.specs.inner.Running.{until_of, counted_of, next_stored_of, for_from_of, between_of, forgetting}
+use Rattle.pas_run.specs.inner.Running.{next_behind}
 use Rattle.pas_run.proofs.DoesLemmas.{does_stop, does_next, does_pure, does_answered, does_question}
 use Rattle.pas_run.proofs.RunningLemmas.{does_as, goes_below, goes_list_of, go_over, done_next, found_stop, does_behind}
 use Rattle.pas_run.proofs.RunningLemmas.{found_next}
@@ -55,7 +59,8 @@ module _ (program : TypedProgram) (most : ℕ) where
   goes_counted_of =
       goes_counted (Some CALL_LIMIT) program (within (Some CALL_LIMIT) program most) (goes_below program most)
 
-  pub goes_turn_of : (kind : CodeLoop) (from : Option ℕ) (list : Statements) → Goes (turn_of program most kind from list)
+  pub goes_turn_of : (kind : CodeLoop) (from : Option ℕ) (list : Statements) → Goes
+      (turn_of program most kind from list)
   goes_turn_of (loops.While test) None list =
       goes_while_turn (Some CALL_LIMIT) program (within (Some CALL_LIMIT) program most) (goes_below program most)
       (value_view test.now) (goes_list_of program most None list)
@@ -68,33 +73,34 @@ module _ (program : TypedProgram) (most : ℕ) where
       (slot_view head.now.slot) head.now.way last (goes_list_of program most from list)
 
 -- behind something that goes on
-module _ (most : ℕ) (kinds : Kinds) (first rest : Doing Store Flow) (goes_rest : Goes rest) (before : MachineState) where
-  abbrev on : Flow → Doing Store Flow
-  on found = meaning.go_on found rest
+module _ (most : ℕ) (kinds : Kinds) (first rest : Doing Store Flow) (goes_rest : Goes rest) (before : MachineState)
+  where
+    abbrev on : Flow → Doing Store Flow
+    on found = meaning.go_on found rest
 
-  pub on_stop : (now : MachineState) (why : Stop)
-      → Does {T = CodeFlow} most kinds kinds IsFlow first before now (Err why)
-      → Does {T = CodeFlow} most kinds kinds IsFlow (first >>= on) before now (Err why)
-  on_stop now why does =
-      does_stop {T = CodeFlow} most kinds kinds kinds IsFlow IsFlow first on before now why
-      (λ found. goes_on found goes_rest) does
+    pub on_stop : (now : MachineState) (why : Stop)
+        → Does {T = CodeFlow} most kinds kinds IsFlow first before now (Err why)
+        → Does {T = CodeFlow} most kinds kinds IsFlow (first >>= on) before now (Err why)
+    on_stop now why does =
+        does_stop {T = CodeFlow} most kinds kinds kinds IsFlow IsFlow first on before now why
+        (λ found. goes_on found goes_rest) does
 
-  pub on_next : (between now : MachineState) (found : CodeFlow) (result : Result CodeFlow Stop) → Goes first
-      → found ≡ flow.Next → Does most kinds kinds IsFlow first before between (Ok found)
-      → Does most kinds kinds IsFlow rest between now result
-      → Does most kinds kinds IsFlow (first >>= on) before now result
-  on_next between now found result goes next does then_does =
-      does_next most kinds kinds kinds IsFlow IsFlow first on before between now found result goes does
-      (λ value is. subst (λ value. Does most kinds kinds IsFlow (on value) between now result)
-      (sym (is ∙ ap flow_view next)) then_does)
+    pub on_next : (between now : MachineState) (found : CodeFlow) (result : Result CodeFlow Stop) → Goes first
+        → found ≡ flow.Next → Does most kinds kinds IsFlow first before between (Ok found)
+        → Does most kinds kinds IsFlow rest between now result
+        → Does most kinds kinds IsFlow (first >>= on) before now result
+    on_next between now found result goes next does then_does =
+        does_next most kinds kinds kinds IsFlow IsFlow first on before between now found result goes does
+        (λ value is. subst (λ value. Does most kinds kinds IsFlow (on value) between now result)
+        (sym (is ∙ ap flow_view next)) then_does)
 
-  pub on_past : (now : MachineState) (found : CodeFlow) → Goes first → (found ≡ flow.Next → ⊥)
-      → Does most kinds kinds IsFlow first before now (Ok found)
-      → Does most kinds kinds IsFlow (first >>= on) before now (Ok found)
-  on_past now found goes other does =
-      does_next most kinds kinds kinds IsFlow IsFlow first on before now now found (Ok found) goes does
-      (λ value is. subst (λ doing. Does most kinds kinds IsFlow doing now now (Ok found))
-      (sym (ap on is ∙ go_over found rest other)) (does_pure most kinds IsFlow found (flow_view found) now refl))
+    pub on_past : (now : MachineState) (found : CodeFlow) → Goes first → (found ≡ flow.Next → ⊥)
+        → Does most kinds kinds IsFlow first before now (Ok found)
+        → Does most kinds kinds IsFlow (first >>= on) before now (Ok found)
+    on_past now found goes other does =
+        does_next most kinds kinds kinds IsFlow IsFlow first on before now now found (Ok found) goes does
+        (λ value is. subst (λ doing. Does most kinds kinds IsFlow doing now now (Ok found))
+        (sym (ap on is ∙ go_over found rest other)) (does_pure most kinds IsFlow found (flow_view found) now refl))
 
 -- the variable of a `for`
 pub whole_slot : (slot : Slot) (store : Store) → along (home_of slot store) [] ≡ home_of slot store
@@ -123,7 +129,8 @@ module _ (program : TypedProgram) (most : ℕ) (slot : Slot) (turns : Doing Stor
 
   pub goes_from_of : (way : Way) (first last : ℤ) → Goes (for_from_of program most slot way first last turns)
   goes_from_of way first last =
-      goes_for (Some CALL_LIMIT) program (within (Some CALL_LIMIT) program most) (goes_below program most) slot way first
+      goes_for (Some CALL_LIMIT) program (within (Some CALL_LIMIT) program most) (goes_below program most) slot way
+      first
       last turns goes_turns
 
   module _ (kinds : Kinds) (first last : ℤ) (before : MachineState) where

@@ -196,4 +196,5 @@ arm_of program most = meaning.arm (Some CALL_LIMIT) program (within (Some CALL_L
 pub goes_arm_of : (program : TypedProgram) (most : ℕ) (number : ℤ) (arms : Arms) {otherwise : Doing Store Flow}
     → Goes otherwise → Goes (arm_of program most number arms otherwise)
 goes_arm_of program most number arms {otherwise = otherwise} goes =
-    goes_arm (Some CALL_LIMIT) program (within (Some CALL_LIMIT) program most) (goes_below program most) number arms goes
+    goes_arm (Some CALL_LIMIT) program (within (Some CALL_LIMIT) program most) (goes_below program most) number arms
+    goes

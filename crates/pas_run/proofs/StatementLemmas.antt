@@ -1,6 +1,7 @@
 -- What statements do that have no statements in them, and those that choose one.
 use Rattle.std.proofs.Common.{◌≡◌, ℕ, suc, ◌+◌, ◌<◌, ◌-◌, ℤ, List, [], ◌∷◌, ◌++◌, length, map, refl, sym, ap, ap₂, ◌∙◌}
-use Rattle.std.proofs.Common.{subst, arith, Option, Some, None, Bool, Result, Ok, Err, false, slice_index_or, ◌⊎◌, inl, inr}
+use Rattle.std.proofs.Common.{subst, arith, Option, Some, None, Bool, Result, Ok, Err, false, slice_index_or, ◌⊎◌}
+use Rattle.std.proofs.Common.{inl, inr}
 use Rattle.std.proofs.lemmas.List.{length-map}
 use Rattle.pas_typed.specs.Types.{PasType, range_of}
 use Rattle.pas_typed.specs.Typed as typed
@@ -63,7 +64,8 @@ module _ (program : TypedProgram) (most : ℕ) (kinds : Kinds) (before : Machine
   -- a status
   pub halts_stop : (status : Value) (now : MachineState) (why : Stop)
       → Does {T = ℤ} most kinds kinds IsNumber (value_of program most status) before now (Err why)
-      → Does {T = CodeFlow} most kinds kinds IsFlow (statement_of program most meaning.start (typed.halts status)) before
+      → Does {T = CodeFlow} most kinds kinds IsFlow (statement_of program most meaning.start (typed.halts status))
+      before
       now (Err why)
   halts_stop status now why does =
       found_stop most kinds IsFlow (operand (byte_of STATUS_OUT_OF_RANGE) (value_of program most status))
@@ -74,7 +76,8 @@ module _ (program : TypedProgram) (most : ℕ) (kinds : Kinds) (before : Machine
   pub halts_wrong : (status : Value) (now : MachineState) (found : ℤ) (why : Stop)
       → Does most kinds kinds IsNumber (value_of program most status) before now (Ok found)
       → Answers {T = ℕ} Same (byte_of STATUS_OUT_OF_RANGE (holds found)) (Err why)
-      → Does {T = CodeFlow} most kinds kinds IsFlow (statement_of program most meaning.start (typed.halts status)) before
+      → Does {T = CodeFlow} most kinds kinds IsFlow (statement_of program most meaning.start (typed.halts status))
+      before
       now (Err why)
   halts_wrong status now found why does answers =
       found_stop most kinds IsFlow (operand (byte_of STATUS_OUT_OF_RANGE) (value_of program most status))
@@ -85,7 +88,8 @@ module _ (program : TypedProgram) (most : ℕ) (kinds : Kinds) (before : Machine
   pub halts_next : (status : Value) (now : MachineState) (found : ℤ) (byte : ℕ)
       → Does most kinds kinds IsNumber (value_of program most status) before now (Ok found)
       → Answers Same (byte_of STATUS_OUT_OF_RANGE (holds found)) (Ok byte)
-      → Does {T = CodeFlow} most kinds kinds IsFlow (statement_of program most meaning.start (typed.halts status)) before
+      → Does {T = CodeFlow} most kinds kinds IsFlow (statement_of program most meaning.start (typed.halts status))
+      before
       now (Err (code.Halted byte))
   halts_next status now found byte does answers =
       found_next most kinds IsFlow (operand (byte_of STATUS_OUT_OF_RANGE) (value_of program most status))
@@ -144,7 +148,8 @@ module _ (program : TypedProgram) (most : ℕ) (kinds : Kinds) (before : Machine
       → Does most kinds kinds Any (assigned_to program most place (holds found)) between now result
       → Does most kinds kinds Any (value_of program most right >>= assigned_to program most place) before now result
   assign_next place right between now found result does then_does =
-      does_next most kinds kinds kinds IsNumber Any (value_of program most right) (assigned_to program most place) before
+      does_next most kinds kinds kinds IsNumber Any (value_of program most right) (assigned_to program most place)
+      before
       between now found result (goes_value_of program most right) does
       (λ datum is. subst (λ datum. Does most kinds kinds Any (assigned_to program most place datum) between now result)
       (sym is) then_does)
@@ -239,7 +244,8 @@ pub takes_number : (program : TypedProgram) (variables : List Variable) (place :
     → IsOrdinal program.types (type_of_place place) → IsLawfulPlace program variables place
     → IsLawfulValue program variables right → Takes program.types (type_of_place place) (type_of right)
     → IsLawfulTarget program variables place × IsLawfulNumber program variables right
-takes_number program variables place right ordinal place_is right_is (inl both) = ((place_is, ordinal), (right_is, both.1))
+takes_number program variables place right ordinal place_is right_is (inl both) =
+    ((place_is, ordinal), (right_is, both.1))
 takes_number program variables place right ordinal place_is right_is (inr same) =
     ((place_is, ordinal), (right_is, subst (IsOrdinal program.types) same ordinal))
 

@@ -21,7 +21,8 @@ use Rattle.pas_run.specs.declared.ends.Stop.{Stop}
 use Rattle.pas_run.specs.inner.MachineState.{MachineState}
 use Rattle.pas_run.specs.inner.Doings.{Any, Same, IsNumber, Does}
 use Rattle.pas_run.specs.inner.Evaluating.{value_of}
-use Rattle.pas_run.specs.inner.Running.{LeadsTo, assigned_to, reads_of, writes_of, bytes_of, read_item_of, write_item_of}
+use Rattle.pas_run.specs.inner.Running.{LeadsTo, assigned_to, reads_of, writes_of, bytes_of, read_item_of}
+use Rattle.pas_run.specs.inner.Running.{write_item_of}
 use Rattle.pas_run.specs.inner.Running.{write_byte_of, width_of, field_of}
 use Rattle.pas_run.proofs.DoesLemmas.{does_stop, does_next, does_pure}
 use Rattle.pas_run.proofs.RunningLemmas.{does_as, done_stop, done_next, goes_below}
@@ -29,7 +30,8 @@ use Rattle.pas_run.proofs.OperandLemmas.{operand_stop, as_number}
 use Rattle.pas_run.proofs.ListLemmas.{from_item}
 
 -- the buffer of a file as a value, and as a place
-module _ (program : TypedProgram) (most : ℕ) (kinds : Kinds) (type : PasType) (slot : Slot) (before now : MachineState) where
+module _ (program : TypedProgram) (most : ℕ) (kinds : Kinds) (type : PasType) (slot : Slot)
+    (before now : MachineState) where
   pub window_read : (result : Result ℤ Stop)
       → Does most kinds kinds IsNumber (ask (read_at program.types type (window slot type))) before now result
       → Does most kinds kinds IsNumber (value_of program most (typed.read (buffer_of slot type))) before now result
@@ -76,7 +78,8 @@ module _ (most : ℕ) (kinds : Kinds) (first : Doing Store Datum) (set : Datum �
         → Does {T = Unit {0}} most kinds kinds Any (first >>= (λ datum. set datum >> rest)) before now (Err why)
     unfolding behind
     set_stops now why then_does =
-        then_behind now (Err why) (done_stop most kinds Any (set (holds found)) rest between now why goes_rest then_does)
+        then_behind now (Err why) (done_stop most kinds Any (set (holds found)) rest between now why goes_rest
+        then_does)
 
     pub set_next : (after now : MachineState) (result : Result (Unit {0}) Stop)
         → Does {T = Unit {0}} most kinds kinds Any (set (holds found)) between after (Ok (tt {0}))
@@ -134,11 +137,13 @@ pub first_and_more : {X : Type 0} (P : X → Type 0) (x : X) (xs : List X) → A
 first_and_more P x xs are = (are 0 x (omega arith), λ k d less. are (suc k) d (omega (arith, less)))
 
 module _ (program : TypedProgram) (most : ℕ) where
-  pub goes_read_item_of : (type : PasType) (slot : Slot) (place : Place) → Goes (read_item_of program most type slot place)
+  pub goes_read_item_of : (type : PasType) (slot : Slot) (place : Place) → Goes
+      (read_item_of program most type slot place)
   goes_read_item_of =
       goes_read_item (Some CALL_LIMIT) program (within (Some CALL_LIMIT) program most) (goes_below program most)
 
-  pub goes_reads_of : (type : PasType) (slot : Slot) (places : List Place) → Goes (reads_of program most type slot places)
+  pub goes_reads_of : (type : PasType) (slot : Slot) (places : List Place) → Goes
+      (reads_of program most type slot places)
   goes_reads_of =
       goes_read_items (Some CALL_LIMIT) program (within (Some CALL_LIMIT) program most) (goes_below program most)
 
@@ -150,7 +155,8 @@ module _ (program : TypedProgram) (most : ℕ) where
   goes_writes_of =
       goes_items (Some CALL_LIMIT) program (within (Some CALL_LIMIT) program most) (goes_below program most)
 
-  pub goes_write_byte_of : (type : PasType) (slot : Slot) (item : Value) → Goes (write_byte_of program most type slot item)
+  pub goes_write_byte_of : (type : PasType) (slot : Slot) (item : Value) → Goes
+      (write_byte_of program most type slot item)
   goes_write_byte_of =
       goes_byte (Some CALL_LIMIT) program (within (Some CALL_LIMIT) program most) (goes_below program most)
 
@@ -162,7 +168,8 @@ module _ (program : TypedProgram) (most : ℕ) where
   goes_width_of =
       goes_width (Some CALL_LIMIT) program (within (Some CALL_LIMIT) program most) (goes_below program most)
 
-  pub goes_field_of : (slot : Slot) (bytes_for : ℕ → List ℕ) (width : ℤ) → Goes (field_of program most slot bytes_for width)
+  pub goes_field_of : (slot : Slot) (bytes_for : ℕ → List ℕ) (width : ℤ) → Goes
+      (field_of program most slot bytes_for width)
   goes_field_of =
       goes_field (Some CALL_LIMIT) program (within (Some CALL_LIMIT) program most) (goes_below program most)
 
@@ -170,6 +177,7 @@ module _ (program : TypedProgram) (most : ℕ) where
 pub as_operand : (most : ℕ) (kinds : Kinds) (evaluated : Doing Store Datum) (before now : MachineState)
     (result : Result ℤ Stop) → Goes evaluated → Does most kinds kinds IsNumber evaluated before now result
     → Does most kinds kinds Same (operand number_of evaluated) before now result
-as_operand most kinds evaluated before now (Ok found) goes does = as_number most kinds evaluated before now found goes does
+as_operand most kinds evaluated before now (Ok found) goes does = as_number most kinds evaluated before now found goes
+    does
 as_operand most kinds evaluated before now (Err why) goes does =
     operand_stop {T = ℤ} most kinds Same number_of evaluated before now why does

@@ -13,9 +13,11 @@ ghost use Rattle.pas_meaning.specs.Standing.{Kinds};
 ghost use Rattle.pas_run.specs.inner.MachineState.{CountFailures};
 ghost use Rattle.pas_run.specs.inner.Doings.{Any, Does, is_port_failed};
 ghost use Rattle.pas_run.specs.inner.Running.{flow_view, statement_of, Runs, RunsList, IsFrom, IsTurn, entry_by};
-ghost use Rattle.pas_run.specs.inner.Running.{entered_of, behind_of, looped_of, RunsBy, RunsFrom, RunsLoop, Turns, IsFlow};
+ghost use Rattle.pas_run.specs.inner.Running.{entered_of, behind_of, looped_of, RunsBy, RunsFrom, RunsLoop, Turns};
+ghost use Rattle.pas_run.specs.inner.Running.{IsFlow};
 ghost use Rattle.pas_run.specs.inner.Running.{turning, loop_view, loop_of, while_turn_of, repeat_turn_of, for_turn_of};
-ghost use Rattle.pas_run.specs.inner.Running.{until_of, counted_of, next_stored_of, for_from_of, between_of, forgetting};
+ghost use Rattle.pas_run.specs.inner.Running.{until_of, counted_of, next_stored_of, for_from_of, between_of};
+ghost use Rattle.pas_run.specs.inner.Running.{forgetting};
 ghost use Rattle.pas_run.specs.inner.Running.{stepped};
 
 use crate::arithmetic::{compared, within_maxint};
@@ -211,7 +213,8 @@ impl<P: Port> Machine<P> {
         levels: u32,
     ) -> Result<Flow, Stop>
         ensures does { RunsFrom scene.entry (turning kind.entry)
-            (loop_view kind.entry (statements_view scene.entry.program.now.spellings list.now)) self.old self.new result }
+            (loop_view kind.entry (statements_view scene.entry.program.now.spellings list.now)) self.old self.new
+            result }
         ensures cause { CountFailures (is_port_failed result) self.old.files self.new.files }
     {
         let mut from = None;
@@ -235,7 +238,8 @@ impl<P: Port> Machine<P> {
         from: Option<u32>,
         levels: u32,
     ) -> Result<Flow, Stop>
-        ensures does { Turns scene.entry kind.entry from (statements_view scene.entry.program.now.spellings list.now) self.old
+        ensures does { Turns scene.entry kind.entry from (statements_view scene.entry.program.now.spellings list.now)
+            self.old
             self.new result }
         ensures cause { CountFailures (is_port_failed result) self.old.files self.new.files }
     {
@@ -313,7 +317,8 @@ impl<P: Port> Machine<P> {
     ) -> Result<Flow, Stop>
         ensures does { RunsLoop scene.entry (Loop.For head.entry last)
             (statements_view scene.entry.program.now.spellings list.now)
-            (λ most. for_from_of (program_view scene.entry.program.now) most (slot_view head.now.slot) head.now.way first
+            (λ most. for_from_of (program_view scene.entry.program.now) most (slot_view head.now.slot) head.now.way
+            first
             last (stepped (loop_of (program_view scene.entry.program.now) most (Loop.For head.entry last)
             (statements_view scene.entry.program.now.spellings list.now)))) self.old self.new result }
         ensures cause { CountFailures (is_port_failed result) self.old.files self.new.files }
@@ -363,7 +368,8 @@ impl<P: Port> Machine<P> {
         ensures does { RunsLoop scene.entry (Loop.For head.entry last)
             (statements_view scene.entry.program.now.spellings list.now)
             (λ most. forgetting (slot_view head.now.slot) (stepped (loop_of (program_view scene.entry.program.now)
-            most (Loop.For head.entry last) (statements_view scene.entry.program.now.spellings list.now)))) self.old self.new
+            most (Loop.For head.entry last) (statements_view scene.entry.program.now.spellings list.now)))) self.old
+            self.new
             result }
         ensures cause { CountFailures (is_port_failed result) self.old.files self.new.files }
     {

@@ -136,7 +136,8 @@ impl<P: Port> Machine<P> {
         right: &Value,
         levels: u32,
     ) -> Result<(), Stop>
-        ensures does { AssignsNumber scene.entry (place_view place.now) (value_view right.now) self.old self.new result }
+        ensures does { AssignsNumber scene.entry (place_view place.now) (value_view right.now) self.old self.new
+            result }
         ensures cause { CountFailures (is_port_failed result) self.old.files self.new.files }
     {
         let number = self.number(scene, right, levels)?;

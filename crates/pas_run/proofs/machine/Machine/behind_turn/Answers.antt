@@ -23,7 +23,8 @@ returns-in_err-take_step-in-Next-clause-does g c spellings program kinds entry t
     (λ from most. statement_of program most (entry_by entry turning from) around)
     (λ most. looped_of program most list entry turning around (flow_view found)) c.args.self.now
     c.take_step.new.self c.from_residual.result) (sym c.in-Next.is)
-    (turn_early kinds _ _ c.args.self.now c.take_step.new.self c.in_err-take_step-in-Next.field-0.0 c.from_residual.result
+    (turn_early kinds _ _ c.args.self.now c.take_step.new.self c.in_err-take_step-in-Next.field-0.0
+    c.from_residual.result
     (err_from_is_err_and _ c.from_residual.ensures.1)
     (λ most. next_stop program kinds list entry turning around c.args.self.now c.take_step.new.self
     c.in_err-take_step-in-Next.field-0.0 most (c.in_err-take_step-in-Next.ensures.does most kinds)))
@@ -35,7 +36,8 @@ returns-in_ok-take_step-in-Next-clause-does g c spellings program kinds entry tu
     (λ from most. statement_of program most (entry_by entry turning from) around)
     (λ most. looped_of program most list entry turning around (flow_view found)) c.args.self.now
     c.take_step.new.self (Ok (turns.Again None))) (sym c.in-Next.is)
-    (leads_step program kinds c.args.self.now c.take_step.new.self turning around c.in_ok-take_step-in-Next.ensures.fewer
+    (leads_step program kinds c.args.self.now c.take_step.new.self turning around
+    c.in_ok-take_step-in-Next.ensures.fewer
     (λ most. c.in_ok-take_step-in-Next.ensures.does most kinds))
 
 pub returns-in-Leaves-clause-does : goal.returns-in-Leaves-clause-does
@@ -43,7 +45,8 @@ returns-in-Leaves-clause-does g c spellings program kinds entry turning around =
     let list = statements_view spellings c.args.list.now in
     subst (λ (found : CodeFlow). IsTurn kinds
     (λ from most. statement_of program most (entry_by entry turning from) around)
-    (λ most. looped_of program most list entry turning around (flow_view found)) c.args.self.now c.args.self.now (Ok (turns.Over flow.Next)))
+    (λ most. looped_of program most list entry turning around (flow_view found)) c.args.self.now c.args.self.now
+    (Ok (turns.Over flow.Next)))
     (sym c.in-Leaves.is) (λ most. does_pure most kinds IsFlow flow.Next meaning.next c.args.self.now refl)
 
 pub returns-in-Jump-clause-does : goal.returns-in-Jump-clause-does

@@ -12,9 +12,11 @@ use Rattle.pas_run.proofs.machine.Machine.end_line.Goals as goal
 pub returns-in_err-file-clause-does : goal.returns-in_err-file-clause-does
 returns-in_err-file-clause-does g c variables result kinds at is most =
     let slot = slot_view c.args.slot in
-    does_early most kinds kinds Any (on_file slot (λ number. append number files.writeln)) c.args.self.now c.args.self.now
+    does_early most kinds kinds Any (on_file slot (λ number. append number files.writeln)) c.args.self.now
+    c.args.self.now
     c.in_err-file.field-0.0 c.from_residual.result (err_from_is_err_and _ c.from_residual.ensures.1)
-    (on_no_file most kinds slot (λ number. append number files.writeln) (λ number. goes_append number files.writeln) c.args.self.now
+    (on_no_file most kinds slot (λ number. append number files.writeln) (λ number. goes_append number files.writeln)
+    c.args.self.now
     c.in_err-file.field-0.0
     (does_question most kinds Same (file_of slot) c.args.self.now _
     (c.in_err-file.ensures.file variables result kinds at is)))
@@ -22,7 +24,8 @@ returns-in_err-file-clause-does g c variables result kinds at is most =
 pub returns-clause-does : goal.returns-clause-does
 returns-clause-does g c variables result kinds at is most =
     let slot = slot_view c.args.slot in
-    on_its_file most kinds slot (λ number. append number files.writeln) (λ number. goes_append number files.writeln) c.args.self.now
+    on_its_file most kinds slot (λ number. append number files.writeln) (λ number. goes_append number files.writeln)
+    c.args.self.now
     c.writeln.new.self c.in_ok-file.file c.writeln.result
     (does_question most kinds Same (file_of slot) c.args.self.now _
     (c.in_ok-file.ensures.file variables result kinds at is)) (c.writeln.ensures.does most kinds)

@@ -17,7 +17,8 @@ returns-in_err-slot-clause-does g c variables result kinds at is most =
     let program = program_view c.args.scene.program.now in
     let place = place_view c.args.place.now in
     let step = file_step_view c.args.step in
-    does_early most kinds kinds Any (answered (file_variable place) >>= (λ file. on_file file (step_of program most step)))
+    does_early most kinds kinds Any (answered (file_variable place) >>=
+    (λ file. on_file file (step_of program most step)))
     c.args.self.now c.args.self.now c.in_err-slot.field-0.0 c.from_residual.result
     (err_from_is_err_and _ c.from_residual.ensures.1)
     (no_file_variable most kinds place (λ file. on_file file (step_of program most step)) c.args.self.now

@@ -10,7 +10,8 @@ use Rattle.pas_run.proofs.machine.Machine.set_result_cell.Goals as goal
 pub returns-clause-does : goal.returns-clause-does
 returns-clause-does g c variables result kinds at type function most datum one is =
     let before : MachineState = c.args.self.now in
-    does_result (program_view c.args.scene.program.now) c.args.scene.layouts.now c.args.scene.locals.now variables result
+    does_result (program_view c.args.scene.program.now) c.args.scene.layouts.now c.args.scene.locals.now variables
+    result
     kinds at type function before c.set_cell.new.self c.args.number datum one is
     (c.set_cell.ensures
     ∙ ap₂ (λ (top : ℕ) (number : ℤ). record before {
