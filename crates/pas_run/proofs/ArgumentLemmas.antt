@@ -27,8 +27,6 @@ use Rattle.pas_run.specs.declared.arguments.Argument.{Argument as CodeArgument}
 use Rattle.pas_run.specs.declared.arguments.Argument.TheVariants as code
 use Rattle.pas_run.specs.declared.cells.Cell.{Cell}
 use Rattle.pas_run.specs.declared.ends.Stop.{Stop}
-use Rattle.pas_run.specs.declared.spots.Spot.{Spot as CodeSpot}
-use Rattle.pas_run.specs.declared.spots.Spot.TheVariants as code_spot
 use Rattle.pas_run.specs.inner.MachineState.{MachineState}
 use Rattle.pas_run.specs.inner.Doings.{Done, Does}
 use Rattle.pas_run.specs.inner.Evaluating.{value_of, place_at, IsBehind}

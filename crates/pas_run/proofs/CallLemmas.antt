@@ -289,7 +289,8 @@ module _ (program : TypedProgram) (most : ℕ) where
       function_stopped type now why calls =
           does_next {U = ℤ} most kinds kinds kinds (AreGiven program variables heading.parameters) IsNumber
           (arguments_of program most passed) then_call before between now founds (Err why)
-          (goes_all program most passed) does (λ values are. does_stop {T = Cell} {U = ℤ} most kinds kinds kinds (IsResult heading) IsNumber
+          (goes_all program most passed) does
+          (λ values are. does_stop {T = Cell} {U = ℤ} most kinds kinds kinds (IsResult heading) IsNumber
           (call_of program most routine values) (λ found. answered (meaning.defined_result found)) between now why
           (λ found. goes_answered (meaning.defined_result found)) (calls values are))
 

@@ -32,14 +32,12 @@ use Rattle.pas_run.specs.declared.layouts.Layout.{Layout}
 use Rattle.pas_run.specs.declared.layouts.Layouts.{Layouts}
 use Rattle.pas_run.specs.declared.ends.Stop.{Stop}
 use Rattle.pas_run.specs.declared.ends.Stop.TheVariants as stop
-use Rattle.pas_run.specs.declared.spots.Spot.{Spot as CodeSpot}
-use Rattle.pas_run.specs.declared.spots.Spot.TheVariants as code
 use Rattle.pas_run.specs.inner.FlatStore.{address_of, datum_cells, flat_store, cells_of, with_cell, cells_at, over}
 use Rattle.pas_run.specs.inner.FlatStore.{Activations, with_cells, behind_by}
 use Rattle.pas_run.specs.inner.MachineState.{MachineState, IsRun}
 use Rattle.pas_run.specs.inner.Scenes.{IsAt}
 use Rattle.pas_run.specs.inner.Doings.{Any, Done, Does, stored_at}
-use Rattle.pas_run.specs.inner.Evaluating.{value_of, place_at, MeansSpot, IsBehind, IsCount}
+use Rattle.pas_run.specs.inner.Evaluating.{value_of, place_at, IsBehind, IsCount}
 use Rattle.pas_run.specs.inner.Copying.{IsWhole, IsFound, AreCells, reference_to, held_at, assignment_of}
 use Rattle.pas_run.proofs.DoesLemmas.{does_stop, does_next, does_question}
 use Rattle.pas_run.proofs.OperandLemmas.{does_no_memory}
@@ -415,7 +413,7 @@ module _ (most : ℕ) (kinds : Kinds) (program : TypedProgram) (variables : List
           (sym (fits_whole program.types (type_of_place place) whole datum)) (stores.each ports run stands within);
     }
 
-    pub assign_next : (later now : MachineState) (behind : ℕ)
+    pub assign_copied : (later now : MachineState) (behind : ℕ)
         → IsWhole program.types (type_of_place place) → Takes program.types (type_of_place place) (type_of right)
         → Does most kinds kinds (IsBehind program variables slot (type_of_place place))
         (place_at program most place) between later (Ok behind)
@@ -424,7 +422,7 @@ module _ (most : ℕ) (kinds : Kinds) (program : TypedProgram) (variables : List
         → IsBehind program variables slot (type_of_place place) behind spot
         → Does most kinds kinds Any (change (stored_at (slot_of spot) (path_of spot) datum)) later now (Ok (tt {0})))
         → Does most kinds kinds Any (assignment_of program most place right) before now (Ok (tt {0}))
-    assign_next later now behind whole takes place_does stores =
+    assign_copied later now behind whole takes place_does stores =
         does_next most kinds kinds kinds its_cells Any (value_of program most right) given before between now
         copied_cells (Ok (tt {0})) (goes_value_of program most right) does
         (λ datum is. does_next most kinds kinds kinds

@@ -17,3 +17,10 @@ pub mod CopyLemmas
 pub mod ArgumentLemmas
 pub mod OpenLemmas
 pub mod CallLemmas
+pub mod RunningLemmas
+pub mod ResultLemmas
+pub mod StatementLemmas
+pub mod ListLemmas
+pub mod LoopLemmas
+pub mod TransferLemmas
+pub mod LineLemmas

@@ -38,7 +38,7 @@ module _ {A T : Type 0} (most : ℕ) (kinds : Kinds) (Is : T → A → Type 0) (
       (subst (λ datum. Answers Is (check datum) result) (sym same) answers))
 
 -- a number is an operand
-as_number : (most : ℕ) (kinds : Kinds) (evaluated : Doing Store Datum) (before now : MachineState)
+pub as_number : (most : ℕ) (kinds : Kinds) (evaluated : Doing Store Datum) (before now : MachineState)
     (found : ℤ) → Goes evaluated → Does most kinds kinds IsNumber evaluated before now (Ok found)
     → Does most kinds kinds Same (operand number_of evaluated) before now (Ok found)
 as_number most kinds evaluated before now found goes does =

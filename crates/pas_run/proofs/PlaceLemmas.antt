@@ -45,7 +45,7 @@ goes_place_at program most place =
     (goes_within (Some CALL_LIMIT) program most) place
 
 -- a place of an ordinal type
-spot_of : (program : TypedProgram) (variables : List Variable) (type : PasType) (found : CodeSpot) (spot : Spot)
+pub spot_of : (program : TypedProgram) (variables : List Variable) (type : PasType) (found : CodeSpot) (spot : Spot)
     → IsOrdinal program.types type → MeansSpot program variables type found spot
     → IsSpot program variables type found spot
 spot_of program variables type (code.Part found behind) (part slot path) ordinal is =

@@ -48,6 +48,7 @@ impl<P: Port> Machine<P> {
     }
 
     // The call of a procedure.
+    #[cycle(running)]
     pub(crate) fn call_procedure(
         &mut self,
         scene: Scene<'_>,
@@ -65,6 +66,7 @@ impl<P: Port> Machine<P> {
 
     // A call with its arguments: what the cell of the result holds behind it. The step is taken first, and then the
     // call begins.
+    #[cycle(running)]
     fn call(
         &mut self,
         scene: Scene<'_>,
@@ -84,6 +86,7 @@ impl<P: Port> Machine<P> {
     }
 
     // What is done behind the begin of a call.
+    #[cycle(running)]
     fn body_run(
         &mut self,
         scene: Scene<'_>,
@@ -111,6 +114,7 @@ impl<P: Port> Machine<P> {
     }
 
     // The body of a routine with this layout runs.
+    #[cycle(running)]
     fn run_body(
         &mut self,
         scene: Scene<'_>,

@@ -29,6 +29,7 @@ use wb_ports::Port;
 
 impl<P: Port> Machine<P> {
     // v := w for variables of an array or record type: the value first, and then the indexes of the place.
+    #[cycle(running)]
     pub(crate) fn assign_whole(
         &mut self,
         scene: Scene<'_>,

@@ -10,12 +10,14 @@ mod ends;
 mod files;
 mod layouts;
 mod lines;
+mod loops;
 mod machine;
 mod places;
 mod refusals;
 mod selectors;
 mod spots;
 mod statements;
+mod transfers;
 mod values;
 
 pub use files::{Ahead, FileState, RunFile, Usage};

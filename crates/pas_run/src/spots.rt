@@ -82,7 +82,12 @@ impl<P: Port> Machine<P> {
     }
 
     // The number that the buffer of a file holds.
-    fn read_window(&mut self, scene: Scene<'_>, slot: Slot, component: PasType) -> Result<i32, Stop>
+    pub(crate) fn read_window(
+        &mut self,
+        scene: Scene<'_>,
+        slot: Slot,
+        component: PasType,
+    ) -> Result<i32, Stop>
         ensures does { (variables : List typed.Variable) (result' : Option types.PasType) (kinds : Kinds)
             → IsScene scene.entry variables result' kinds
             → IsFileSlot (program_view scene.entry.program.now) variables (slot_view slot)
@@ -140,7 +145,7 @@ impl<P: Port> Machine<P> {
     }
 
     // The buffer of a file gets a number, which must be in the range of its components.
-    fn store_window(
+    pub(crate) fn store_window(
         &mut self,
         scene: Scene<'_>,
         slot: Slot,
