@@ -17,3 +17,4 @@ pub mod CopyLemmas
 pub mod ArgumentLemmas
 pub mod OpenLemmas
 pub mod CallLemmas
+pub mod LayingLemmas

@@ -7,3 +7,4 @@ pub mod Evaluating
 pub mod Running
 pub mod Copying
 pub mod Calling
+pub mod Laying

@@ -8,6 +8,7 @@ mod cells;
 mod copies;
 mod ends;
 mod files;
+mod laying;
 mod layouts;
 mod lines;
 mod machine;
