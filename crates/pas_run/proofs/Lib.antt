@@ -18,3 +18,5 @@ pub mod ArgumentLemmas
 pub mod OpenLemmas
 pub mod CallLemmas
 pub mod LayingLemmas
+pub mod StartLemmas
+pub mod RunLemmas

@@ -126,7 +126,7 @@ fn cells_of(program: &TypedProgram, variable: &Variable) -> u64
 }
 
 // So many cells and more, unless that is more than a machine has.
-fn with_more(cells: u32, more: u64) -> Result<u32, Stop>
+pub(crate) fn with_more(cells: u32, more: u64) -> Result<u32, Stop>
     ensures found { (whole : ℕ) → counted whole ≡ more → IsFound (λ all. all ≡ cells + whole) result }
     ensures quiet { is_port_failed result ≡ false }
 {

@@ -14,8 +14,10 @@ mod lines;
 mod machine;
 mod places;
 mod refusals;
+mod runs;
 mod selectors;
 mod spots;
+mod start;
 mod statements;
 mod values;
 
