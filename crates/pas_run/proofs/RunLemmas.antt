@@ -15,10 +15,26 @@ use Rattle.pas_meaning.specs.Laws.{Goes}
 use Rattle.pas_meaning.specs.Trial.{begun_by, begin_files, no_variable, parameters_of, whole_run}
 use Rattle.pas_meaning.proofs.OnwardLemmas.{goes_then, goes_bind, goes_pure, goes_stop, goes_if, goes_reset, goes_rewrite}
 use Rattle.pas_meaning.proofs.GoesLemmas.{goes_within}
+use Rattle.std.proofs.Common.{None}
+use Rattle.wb_ports.specs.PortState.{PortState}
+use Rattle.pas_typed.specs.Types.{text, same_type}
+use Rattle.pas_typed.specs.Lawful.{IsLawful}
+use Rattle.pas_meaning.specs.Standing.{kind_of, kinds_at_start}
+use Rattle.pas_meaning.specs.Trial.{cells_from, file_given, files_given, run_at_start}
+use Rattle.pas_meaning.proofs.StartKeeps.{stands_at_start, knows_at_start}
+use Rattle.pas_run.specs.declared.files.FileState.{FileState}
+use Rattle.pas_run.specs.declared.files.Usage.{Usage}
+use Rattle.pas_run.specs.declared.files.Usage.TheVariants as usage
+use Rattle.pas_run.specs.declared.files.Ahead.TheVariants as ahead
+use Rattle.pas_run.specs.declared.layouts.Layout.{Layout}
+use Rattle.pas_run.specs.declared.layouts.Layouts.{Layouts}
+use Rattle.pas_run.specs.RunFiles.{mode_of, IsRead, WhileRead, IsFile}
+use Rattle.pas_run.specs.inner.FlatStore.{flat_row}
+use Rattle.pas_run.specs.inner.Scenes.{AreLayouts, IsAt}
 use Rattle.pas_run.specs.declared.ends.Stop.{Stop}
 use Rattle.pas_run.specs.declared.ends.Stop.TheVariants as why_stop
 use Rattle.pas_run.specs.declared.ends.Flow.{Flow as CodeFlow}
-use Rattle.pas_run.specs.inner.MachineState.{KeptFile, MachineState, failures_of}
+use Rattle.pas_run.specs.inner.MachineState.{KeptFile, MachineState, AreFiles, IsRun, failures_of}
 use Rattle.pas_run.specs.inner.Doings.{Any, Does}
 use Rattle.pas_run.specs.inner.Running.{IsFlow, statement_of, LeadsTo}
 use Rattle.pas_run.proofs.DoesLemmas.{does_stop, does_next, does_pure}
@@ -169,3 +185,52 @@ as_many_files files others same =
 pub length-parameters : (program : TypedProgram) → length (parameters_of program) ≡ length program.files
 length-parameters program =
     length-map program.files (λ (variable : ℕ). unwrap_or (slice_get program.globals variable) no_variable)
+
+-- at the start: a file over a port that is not used yet, the scene of a program, and the run
+pub file_at_start : (port : PortState) (found : Variable) (state : FileState)
+    → state ≡ record {
+      is_text = same_type found.type text;
+      usage = usage.Unused;
+      ahead = ahead.Unknown;
+      last = None;
+      buffer = None;
+    }
+    → IsFile port state (Some port) (file_given (found, port.bytes))
+file_at_start port found state is = record {
+  kind = sym (ap (λ (state : FileState). state.is_text) is);
+  bytes = refl;
+  mode = sym (ap (λ (state : FileState). mode_of state.usage) is);
+  buffer = sym (ap (λ (state : FileState). state.buffer) is);
+  name = refl;
+  finishes = refl;
+  starts = refl;
+  read = subst (λ (used : Usage). WhileRead used (IsRead state port (file_given (found, port.bytes))))
+      (sym (ap (λ (state : FileState). state.usage) is)) tt;
+}
+
+module _ (program : TypedProgram) (lawful : IsLawful program) where
+  pub scene_at_start : (layouts : Layouts) (locals : Layout) → AreLayouts program layouts
+      → locals ≡ record { offsets = []; cells = 0 } → IsAt program layouts locals [] None (kinds_at_start program)
+  scene_at_start layouts locals are is = record {
+    lawful = lawful;
+    all_laid = are;
+    laid = record {
+      many = ap (λ (layout : Layout). length layout.offsets) is;
+      each = λ number less. absurd (omega (arith, less));
+      cells = ap (λ (layout : Layout). layout.cells) is;
+    };
+    knows = knows_at_start program lawful;
+    global_row = refl;
+    others = map (kind_of program.types) program.globals;
+    top_row = refl;
+  }
+
+  pub run_stands : (ports : List PortState) (given : List (List ℕ)) (steps : ℕ) (machine : MachineState)
+      → machine.activations ≡ flat_row (kinds_at_start program) (cells_from program 0 program.globals) ∷ []
+      → machine.steps ≡ steps → machine.calls ≡ 0 → AreFiles ports machine.files (files_given program given)
+      → IsRun (kinds_at_start program) ports machine (run_at_start program given steps)
+  run_stands ports given steps machine cells steps_are calls files_are = record {
+    activations = cells;
+    stands = stands_at_start program lawful;
+    world = record { steps = steps_are; calls = calls; files = files_are };
+  }
