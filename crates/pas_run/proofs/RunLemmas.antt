@@ -16,11 +16,16 @@ use Rattle.pas_meaning.specs.Trial.{begun_by, begin_files, no_variable, paramete
 use Rattle.pas_meaning.proofs.OnwardLemmas.{goes_then, goes_bind, goes_pure, goes_stop, goes_if, goes_reset, goes_rewrite}
 use Rattle.pas_meaning.proofs.GoesLemmas.{goes_within}
 use Rattle.std.proofs.Common.{None}
+use Rattle.pas_meaning.specs.Outcome.{World, Outcome, gives, ends, errs}
+use Rattle.pas_meaning.specs.Laws.{world_of}
+use Rattle.pas_run.specs.inner.MachineState.{IsWorld}
+use Rattle.pas_run.specs.inner.Doings.{IsMoment, EndsWith, StopsBy}
+use Rattle.pas_run.specs.inner.Starting.{EndsAs}
 use Rattle.wb_ports.specs.PortState.{PortState}
 use Rattle.pas_typed.specs.Types.{text, same_type}
 use Rattle.pas_typed.specs.Lawful.{IsLawful}
 use Rattle.pas_meaning.specs.Standing.{kind_of, kinds_at_start}
-use Rattle.pas_meaning.specs.Trial.{cells_from, file_given, files_given, run_at_start}
+use Rattle.pas_meaning.specs.Trial.{cells_from, file_given, files_given, run_at_start, result_of, pascal_trial}
 use Rattle.pas_meaning.proofs.StartKeeps.{stands_at_start, knows_at_start}
 use Rattle.pas_run.specs.declared.files.FileState.{FileState}
 use Rattle.pas_run.specs.declared.files.Usage.{Usage}
@@ -141,36 +146,40 @@ module _ (program : TypedProgram) (kinds : Kinds) (most : ℕ) (before : Machine
       (λ done. goes_halted) does
 
   module _ (between : MachineState) (begun : Does {T = Unit {0}} most kinds kinds Any begins before between (Ok (tt {0})))
-      where
-    pub run_stopped : (now : MachineState) (why : Stop)
-        → Does {T = CodeFlow} most kinds kinds IsFlow run_of between now (Err why)
-        → Does {T = Unit {0}} most kinds kinds Any whole before now (Err why)
-    run_stopped now why does =
-        does_next {T = Unit {0}} {U = Unit {0}} most kinds kinds kinds Any Any begins (λ done. then_halted) before
-        between now (tt {0}) (Err why) (goes_begin_files 0 (parameters_of program)) begun
-        (λ done any. does_stop {T = CodeFlow} {U = Unit {0}} most kinds kinds kinds IsFlow Any run_of
-        (λ flow. stop (halted 0)) between now why (λ flow. goes_stop (halted 0)) does)
+    where
+      pub run_stopped : (now : MachineState) (why : Stop)
+          → Does {T = CodeFlow} most kinds kinds IsFlow run_of between now (Err why)
+          → Does {T = Unit {0}} most kinds kinds Any whole before now (Err why)
+      run_stopped now why does =
+          does_next {T = Unit {0}} {U = Unit {0}} most kinds kinds kinds Any Any begins (λ done. then_halted) before
+          between now (tt {0}) (Err why) (goes_begin_files 0 (parameters_of program)) begun
+          (λ done any. does_stop {T = CodeFlow} {U = Unit {0}} most kinds kinds kinds IsFlow Any run_of
+          (λ flow. stop (halted 0)) between now why (λ flow. goes_stop (halted 0)) does)
 
-    pub run_done : (now : MachineState) (flow : CodeFlow)
-        → Does {T = CodeFlow} most kinds kinds IsFlow run_of between now (Ok flow)
-        → Does {T = Unit {0}} most kinds kinds Any whole before now (Err (why_stop.Halted 0))
-    run_done now flow does =
-        does_next {T = Unit {0}} {U = Unit {0}} most kinds kinds kinds Any Any begins (λ done. then_halted) before
-        between now (tt {0}) (Err (why_stop.Halted 0)) (goes_begin_files 0 (parameters_of program)) begun
-        (λ done any. does_next {T = CodeFlow} {U = Unit {0}} most kinds kinds kinds IsFlow Any run_of
-        (λ flow. stop (halted 0)) between now now flow (Err (why_stop.Halted 0))
-        (goes_within (Some CALL_LIMIT) program (suc most) start (typed.compound program.statements)) does
-        (λ found is. record {
-          each = λ ports run stands within. (run.world, record { same = refl; stands = stands.world });
-        }))
+      pub run_done : (now : MachineState) (flow : CodeFlow)
+          → Does {T = CodeFlow} most kinds kinds IsFlow run_of between now (Ok flow)
+          → Does {T = Unit {0}} most kinds kinds Any whole before now (Err (why_stop.Halted 0))
+      run_done now flow does =
+          does_next {T = Unit {0}} {U = Unit {0}} most kinds kinds kinds Any Any begins (λ done. then_halted) before
+          between now (tt {0}) (Err (why_stop.Halted 0)) (goes_begin_files 0 (parameters_of program)) begun
+          (λ done any. does_next {T = CodeFlow} {U = Unit {0}} most kinds kinds kinds IsFlow Any run_of
+          (λ flow. stop (halted 0)) between now now flow (Err (why_stop.Halted 0))
+          (goes_within (Some CALL_LIMIT) program (suc most) start (typed.compound program.statements)) does
+          (λ found is. record {
+            each = λ ports run stands within. (run.world, record { same = refl; stands = stands.world });
+          }))
 
 -- the parameter with a number; and the files that are as many where all failures are the same
 pub parameter_there : (program : TypedProgram) (i : ℕ) → i < length program.files
     → slice_get (parameters_of program) i ≡ Some (get_or (parameters_of program) i no_variable)
 parameter_there program i less =
     slice_get-get_or (parameters_of program) i no_variable
-    (omega (arith, less, length-map program.files
-    (λ (variable : ℕ). unwrap_or (slice_get program.globals variable) no_variable)))
+    (omega (
+      arith,
+      less,
+      length-map program.files
+          (λ (variable : ℕ). unwrap_or (slice_get program.globals variable) no_variable),
+    ))
 
 pub as_many_files : (files others : List KeptFile) → failures_of files ≡ failures_of others
     → length files ≡ length others
@@ -234,3 +243,39 @@ module _ (program : TypedProgram) (lawful : IsLawful program) where
     stands = stands_at_start program lawful;
     world = record { steps = steps_are; calls = calls; files = files_are };
   }
+
+-- what stops a whole run is how the trial ends
+world_left : (outcome : Outcome Store (Unit {0})) → world_of outcome ≡ (result_of outcome).world
+world_left (gives value run) = refl
+world_left (ends end world) = refl
+world_left (errs kind world) = refl
+
+module _ (kinds : Kinds) (ports : List PortState) (first : World) (outcome : Outcome Store (Unit {0}))
+    (now : MachineState) where
+  ends_with : (world : World) (end : Outcome Store (Unit {0}))
+      → EndsWith {A = Unit {0}} {T = Unit {0}} kinds ports Any first outcome now world end
+      → IsWorld ports now (result_of end).world
+      → ((result_of outcome).ending ≡ (result_of end).ending) × IsWorld ports now (result_of outcome).world
+  ends_with world end is stands = (
+    ap (λ (outcome : Outcome Store (Unit {0})). (result_of outcome).ending) is.same,
+    subst (λ (outcome : Outcome Store (Unit {0})). IsWorld ports now (result_of outcome).world) (sym is.same) stands,
+  )
+
+  stops_as : (why : Stop) → StopsBy {A = Unit {0}} {T = Unit {0}} kinds ports Any first outcome now why
+      → EndsAs ports first (result_of outcome) now why
+  stops_as (why_stop.Halted status) h = ends_with h.0 _ h.1 h.1.stands
+  stops_as why_stop.Going h = ends_with h.0 _ h.1 h.1.stands
+  stops_as (why_stop.Wrong kind) h = ends_with h.0 _ h.1 h.1.stands
+  stops_as why_stop.TooDeep h = ends_with h.0 _ h.1 h.1.stands
+  stops_as why_stop.PortFailed h = subst (IsMoment now.files first) (world_left outcome) h
+  stops_as why_stop.OutOfMemory h = tt
+
+pub trial_ends : (program : TypedProgram) (given : List (List ℕ)) (steps : ℕ) (kinds : Kinds) (ports : List PortState)
+    (before now : MachineState) (why : Stop) → IsRun kinds ports before (run_at_start program given steps)
+    → Does {T = Unit {0}} steps kinds kinds Any (whole_run (Some CALL_LIMIT) program steps) before now (Err why)
+    → EndsAs ports (run_at_start program given steps).world (pascal_trial program given steps) now why
+unfolding pascal_trial
+trial_ends program given steps kinds ports before now why stands does =
+    stops_as kinds ports (run_at_start program given steps).world
+    (whole_run (Some CALL_LIMIT) program steps (run_at_start program given steps)) now why
+    (does.each ports (run_at_start program given steps) stands (omega arith))

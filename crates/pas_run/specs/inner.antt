@@ -8,3 +8,4 @@ pub mod Running
 pub mod Copying
 pub mod Calling
 pub mod Laying
+pub mod Starting
