@@ -1,6 +1,6 @@
 -- The layouts of a program, as they are made.
 use Rattle.std.proofs.Common.{◌≡◌, ◌==◌, ℕ, zero, suc, ◌+◌, ◌<◌, List, [], ◌∷◌, ◌++◌, length, map, get_or, arith}
-use Rattle.std.proofs.Common.{refl, sym, ap, ◌∙◌, subst, Option, Some, None, slice_get, option_map, length-append}
+use Rattle.std.proofs.Common.{refl, sym, ap, ◌∙◌, subst, Some, slice_get, option_map, length-append}
 use Rattle.std.proofs.Common.{inl, inr, ◌⊎◌, ◌≤◌, Bool, true, false, if◌then◌else◌}
 use Rattle.std.specs.List.{find, position, position_or_len}
 use Rattle.std.proofs.lemmas.Bool.{cases_lt}
@@ -24,7 +24,6 @@ use Rattle.pas_typed.specs.declared.types.Base.TheVariants as code_base
 use Rattle.pas_typed.specs.declared.typed.Body.{Body as CodeBody}
 use Rattle.pas_typed.specs.declared.typed.TypedProgram.{TypedProgram as CodeProgram}
 use Rattle.pas_typed.proofs.ShapeLemmas.{size-shape_of}
-use Rattle.pas_meaning.specs.Run.{body_of}
 use Rattle.pas_meaning.specs.Standing.{Kind, kind_by, kind_of}
 use Rattle.pas_run.specs.declared.layouts.Layout.{Layout}
 use Rattle.pas_run.specs.inner.FlatStore.{cells_for, cells_before}

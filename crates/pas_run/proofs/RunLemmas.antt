@@ -1,15 +1,15 @@
 -- Whole runs, one thing behind another.
-use Rattle.std.proofs.Common.{◌≡◌, ℕ, zero, suc, ◌+◌, ◌<◌, ◌≤◌, List, [], ◌∷◌, length, map, drop, slice_get, Option, Some}
-use Rattle.std.proofs.Common.{arith, refl, sym, ap, ◌∙◌, subst, Result, Ok, Err, false}
+use Rattle.std.proofs.Common.{◌≡◌, ℕ, zero, suc, ◌+◌, ◌<◌, ◌≤◌, List, [], ◌∷◌, length, map, drop, slice_get, Some}
+use Rattle.std.proofs.Common.{arith, refl, sym, ap, ◌∙◌, subst, Ok, Err}
 use Rattle.std.proofs.Common.{get_or, unwrap_or}
 use Rattle.std.proofs.lemmas.List.{length-map}
 use Rattle.std.proofs.lemmas.Option.{same_Some, slice_get-get_or}
 use Rattle.pas_typed.specs.Typed as typed
 use Rattle.pas_typed.specs.Typed.{Variable, TypedProgram}
 use Rattle.pas_meaning.specs.declared.errors.TheConstants.{CALL_LIMIT}
-use Rattle.pas_meaning.specs.Outcome.{Doing, halted, stop, pure, ◌>>=◌, ◌>>◌}
+use Rattle.pas_meaning.specs.Outcome.{Doing, halted, stop, ◌>>=◌, ◌>>◌}
 use Rattle.pas_meaning.specs.Store.{Store}
-use Rattle.pas_meaning.specs.Run.{Flow, start, within}
+use Rattle.pas_meaning.specs.Run.{Flow, start}
 use Rattle.pas_meaning.specs.Standing.{Kinds}
 use Rattle.pas_meaning.specs.Laws.{Goes}
 use Rattle.pas_meaning.specs.Trial.{begun_by, begin_files, no_variable, parameters_of, whole_run}

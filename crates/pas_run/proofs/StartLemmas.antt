@@ -1,8 +1,8 @@
 -- The globals at the start, in cells.
-use Rattle.std.proofs.Common.{◌≡◌, ◌==◌, ℕ, zero, suc, ◌+◌, ◌≤◌, ◌-◌, List, [], ◌∷◌, ◌++◌, length, map, take, replicate}
-use Rattle.std.proofs.Common.{arith, refl, sym, ap, ◌∙◌, Option, Some, None, slice_get, option_map, unwrap_or, pos, append-nil}
+use Rattle.std.proofs.Common.{◌≡◌, ◌==◌, ℕ, zero, suc, ◌+◌, ◌≤◌, List, [], ◌∷◌, ◌++◌, length, map, take, replicate}
+use Rattle.std.proofs.Common.{arith, sym, ap, ◌∙◌, Option, Some, None, slice_get, option_map, unwrap_or, pos, append-nil}
 use Rattle.std.specs.List.{position}
-use Rattle.std.proofs.lemmas.List.{take_all, length-map}
+use Rattle.std.proofs.lemmas.List.{take_all}
 use Rattle.std.proofs.lemmas.Option.{same_Some, slice_get-map}
 use Rattle.pas_typed.specs.Typed.{Variable, TypedProgram}
 use Rattle.std.proofs.Common.{Result, Ok, Err}

@@ -1,6 +1,6 @@
-use Rattle.std.proofs.Common.{subst, sym, List, ℕ, ◌+◌, arith, ◌∙◌, ap, length}
+use Rattle.std.proofs.Common.{subst, sym, List, ◌+◌}
 use Rattle.pas_run.specs.declared.layouts.Layout.{Layout}
-use Rattle.pas_run.proofs.LayingLemmas.{BodiesSoFar, bodies_none, bodies_next, bodies_all}
+use Rattle.pas_run.proofs.LayingLemmas.{BodiesSoFar, bodies_next, bodies_all}
 use Rattle.pas_run.proofs.laying.body_layouts.Goals as goal
 
 pub loop-body-preserved : goal.loop-body-preserved

@@ -1,6 +1,6 @@
 use Rattle.std.proofs.Common.{subst, sym, List, ℕ, ◌+◌, map, get_or}
 use Rattle.pas_typed.specs.TypedViews.{variable_view, program_view}
-use Rattle.pas_meaning.specs.Standing.{Kind, kind_of}
+use Rattle.pas_meaning.specs.Standing.{kind_of}
 use Rattle.pas_run.specs.inner.FlatStore.{cells_for}
 use Rattle.pas_run.proofs.LayingLemmas.{LaidSoFar, laid_none, laid_next, kind_there, no_variable}
 use Rattle.pas_run.proofs.laying.layout_of.Goals as goal

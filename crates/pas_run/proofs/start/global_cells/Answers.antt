@@ -2,7 +2,7 @@ use Rattle.std.proofs.Common.{◌≡◌, ◌++◌, Vec, Global}
 use Rattle.pas_meaning.specs.Trial.{global_cell, cells_from}
 use Rattle.pas_run.specs.declared.cells.Cell.{Cell}
 use Rattle.pas_run.specs.inner.FlatStore.{flat_cell, flat_row}
-use Rattle.std.proofs.Common.{arith, length}
+use Rattle.std.proofs.Common.{arith}
 use Rattle.std.proofs.lemmas.List.{length-map}
 use Rattle.std.proofs.lemmas.Result.{err_from_is_err_and}
 use Rattle.pas_typed.specs.TypedViews.{variable_view, program_view}

@@ -5,7 +5,6 @@ use Rattle.pas_run.specs.declared.cells.Cell.TheVariants.{Undefined}
 use Rattle.pas_run.specs.inner.FlatStore.{flat_cell}
 use Rattle.std.proofs.lemmas.Result.{err_from_is_err_and}
 use Rattle.pas_typed.specs.Types.{cells_of}
-use Rattle.pas_typed.specs.TypeViews.{type_view}
 use Rattle.pas_typed.specs.TypedViews.{variable_view, program_view}
 use Rattle.pas_run.proofs.CopyLemmas.{found_early, found_other}
 use Rattle.pas_run.proofs.StartLemmas.{found_so, blank_found}

@@ -1,4 +1,4 @@
-use Rattle.std.proofs.Common.{◌≡◌, ℕ, Ok}
+use Rattle.std.proofs.Common.{◌≡◌}
 use Rattle.pas_typed.specs.TypedViews.{program_view}
 use Rattle.pas_meaning.specs.Standing.{Kinds}
 use Rattle.pas_meaning.specs.Trial.{parameters_of}

@@ -1,5 +1,5 @@
 use Rattle.std.proofs.lemmas.Result.{err_from_is_err_and}
-use Rattle.std.proofs.Common.{[], Option, None, Some}
+use Rattle.std.proofs.Common.{[], None, Some}
 use Rattle.pas_typed.specs.TypedViews.{program_view}
 use Rattle.pas_meaning.specs.declared.errors.TheConstants.{CALL_LIMIT}
 use Rattle.pas_meaning.specs.Trial.{whole_run}
