@@ -13,7 +13,8 @@ use Rattle.pas_meaning.specs.Run.{Flow, start}
 use Rattle.pas_meaning.specs.Standing.{Kinds}
 use Rattle.pas_meaning.specs.Laws.{Goes}
 use Rattle.pas_meaning.specs.Trial.{begun_by, begin_files, no_variable, parameters_of, whole_run}
-use Rattle.pas_meaning.proofs.OnwardLemmas.{goes_then, goes_bind, goes_pure, goes_stop, goes_if, goes_reset, goes_rewrite}
+use Rattle.pas_meaning.proofs.OnwardLemmas.{goes_then, goes_bind, goes_pure}
+use Rattle.pas_meaning.proofs.OnwardLemmas.{goes_stop, goes_if, goes_reset, goes_rewrite}
 use Rattle.pas_meaning.proofs.GoesLemmas.{goes_within}
 use Rattle.std.proofs.Common.{None}
 use Rattle.pas_meaning.specs.Outcome.{World, Outcome, gives, ends, errs}
@@ -59,7 +60,8 @@ begin_from parameters i = begin_files i (drop i parameters)
 
 from_there : (file : ℕ) (parameters : List Variable) (i : ℕ) (found : Variable)
     → slice_get parameters i ≡ Some found
-    → begin_files file (drop i parameters) ≡ begun_by file found.name >> begin_files (suc file) (drop (suc i) parameters)
+    → begin_files file (drop i parameters)
+    ≡ begun_by file found.name >> begin_files (suc file) (drop (suc i) parameters)
 from_there file [] i found is = absurd (cc)
 from_there file (first ∷ parameters) zero found is =
     ap (λ (found : Variable). begun_by file found.name >> begin_files (suc file) parameters) (same_Some first found is)

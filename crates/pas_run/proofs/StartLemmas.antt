@@ -1,6 +1,7 @@
 -- The globals at the start, in cells.
 use Rattle.std.proofs.Common.{◌≡◌, ◌==◌, ℕ, zero, suc, ◌+◌, ◌≤◌, List, [], ◌∷◌, ◌++◌, length, map, take, replicate}
-use Rattle.std.proofs.Common.{arith, sym, ap, ◌∙◌, Option, Some, None, slice_get, option_map, unwrap_or, pos, append-nil}
+use Rattle.std.proofs.Common.{arith, sym, ap, ◌∙◌, Option, Some}
+use Rattle.std.proofs.Common.{None, slice_get, option_map, unwrap_or, pos, append-nil}
 use Rattle.std.specs.List.{position}
 use Rattle.std.proofs.lemmas.List.{take_all}
 use Rattle.std.proofs.lemmas.Option.{same_Some, slice_get-map}
@@ -36,7 +37,8 @@ module _ (program : TypedProgram) where
 
   pub blank_global : (kinds : Kinds) (number : ℕ) (found : Variable)
       → position (λ (other : ℕ). other == number) program.files ≡ None
-      → flat_cell kinds (global_cell program number found) ≡ replicate (size (shape_of program.types found.type)) Undefined
+      → flat_cell kinds (global_cell program number found)
+      ≡ replicate (size (shape_of program.types found.type)) Undefined
   blank_global kinds number found is = ap (cells_by found) is ∙ blank_cells program.types found.type
 
   -- one global more
@@ -52,7 +54,8 @@ module _ (program : TypedProgram) where
       (from_next (suc n) xs i x is
       ∙ ap (λ (k : ℕ). cells_from program (suc n) (take i xs) ++ global_cell program k x ∷ []) (omega arith))
 
-  pub globals_next : (kinds : Kinds) (i : ℕ) (x : Variable) (cells more : List Cell) → slice_get program.globals i ≡ Some x
+  pub globals_next : (kinds : Kinds) (i : ℕ) (x : Variable) (cells more : List Cell)
+      → slice_get program.globals i ≡ Some x
       → cells ≡ flat_row kinds (cells_from program 0 (take i program.globals))
       → more ≡ cells ++ flat_cell kinds (global_cell program i x)
       → more ≡ flat_row kinds (cells_from program 0 (take (i + 1) program.globals))
