@@ -24,3 +24,6 @@ pub mod ListLemmas
 pub mod LoopLemmas
 pub mod TransferLemmas
 pub mod LineLemmas
+pub mod LayingLemmas
+pub mod StartLemmas
+pub mod RunLemmas

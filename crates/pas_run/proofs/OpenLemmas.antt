@@ -46,7 +46,7 @@ use Rattle.pas_run.proofs.OperandLemmas.{does_no_memory}
 use Rattle.pas_run.proofs.CopyLemmas.{place_slot, place_address, found_other}
 
 -- cells of rows
-row_append : (kinds : Kinds) (xs ys : List pascal.Cell)
+pub row_append : (kinds : Kinds) (xs ys : List pascal.Cell)
     → flat_row kinds (xs ++ ys) ≡ flat_row kinds xs ++ flat_row kinds ys
 row_append kinds [] ys = refl
 row_append kinds (x ∷ xs) ys =
@@ -79,7 +79,7 @@ map_blanks : (count : ℕ) → map number_cell (replicate count None) ≡ replic
 map_blanks zero = refl
 map_blanks (suc count) = ap (λ (rest : List Cell). Undefined ∷ rest) (map_blanks count)
 
-blank_cells : (table : Table) (type : PasType)
+pub blank_cells : (table : Table) (type : PasType)
     → datum_cells (blank_of table type) ≡ replicate (size (shape_of table type)) Undefined
 blank_cells table type = ap (map number_cell) (flat-blank_of table type) ∙ map_blanks (size (shape_of table type))
 

@@ -7,3 +7,5 @@ pub mod Evaluating
 pub mod Running
 pub mod Copying
 pub mod Calling
+pub mod Laying
+pub mod Starting

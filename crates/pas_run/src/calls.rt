@@ -258,7 +258,7 @@ fn cells_in(scene: Scene<'_>, layout: &Layout, body: &Body) -> usize
 }
 
 // Cells, and behind them cells that hold nothing, so that there are so many.
-fn with_blanks(given: Vec<Cell>, count: usize) -> Result<Vec<Cell>, Stop>
+pub(crate) fn with_blanks(given: Vec<Cell>, count: usize) -> Result<Vec<Cell>, Stop>
     ensures found { IsFound (λ found. found.items
         ≡ take count given.items ++ replicate (count - length given.items) Undefined) result }
     ensures quiet { is_port_failed result ≡ false }

@@ -1,5 +1,5 @@
 //! What a run holds: the activations, its steps and its active calls, and its files.
-ghost use Rattle.std.specs.Prelude.{◌≡◌, ℕ, ◌≤◌, ◌<◌, ◌+◌, ◌-◌, ◌^◌, length, nat_abs, List, IfOk, false};
+ghost use Rattle.std.specs.Prelude.{◌≡◌, ℕ, ◌≤◌, ◌<◌, ◌+◌, ◌-◌, ◌^◌, length, nat_abs, List, IfOk, false, map};
 ghost use Rattle.pas_meaning.specs.declared.errors.TheConstants.{CALL_LIMIT};
 ghost use Rattle.std.specs.Prelude.{Some, [], ◌∷◌, ◌++◌, take};
 ghost use Rattle.pas_meaning.specs.Outcome as run;
@@ -347,5 +347,35 @@ impl<P: Port> Machine<P> {
         ensures same { self.new ≡ record self.old { files = self.new.files } }
     {
         stopped(self.files[file].writeln())
+    }
+
+    // A machine before a run, in which the program's activation has these cells.
+    pub(crate) fn new(
+        alloc: Global,
+        cells: Vec<Cell>,
+        steps: u64,
+        files: Vec<RunFile<P>>,
+    ) -> Result<Machine<P>, Stop>
+        ensures made { IsFound (λ machine. machine ≡ record {
+          activations = cells.items ∷ [];
+          steps = steps;
+          calls = 0;
+          files = map (λ file. record {
+            state = file.state;
+            told = P.told file.port;
+            failures = P.failures file.port;
+          }) files.items;
+        }) result }
+        ensures quiet { is_port_failed result ≡ false }
+    {
+        let mut activations = Vec::new(alloc);
+        activations.push(cells)?;
+        Ok(Machine {
+            alloc,
+            activations,
+            steps,
+            calls: 0,
+            files,
+        })
     }
 }
