@@ -64,6 +64,7 @@ pub mod CountedLemmas
 pub mod GlobalLemmas
 pub mod LocalLemmas
 pub mod LocalRowLemmas
+pub mod WholeLemmas
 pub mod WithinLemmas
 pub mod LocalRowsLemmas
 pub mod FormalLemmas
