@@ -1,4 +1,5 @@
 pub mod AsMany
+pub mod TypedLemmas
 pub mod TypesAsMany
 pub mod ExpressionsAsMany
 pub mod CallsAsMany
