@@ -6,6 +6,7 @@ use Rattle.std.specs.Str.{bytes_eq}
 use Rattle.std.proofs.lemmas.List.{map-append, length-map, take_more}
 use Rattle.std.proofs.lemmas.List.Sums.{fold-append, sum_by-cons}
 use Rattle.std.proofs.lemmas.List.Elements.{filter-append}
+use Rattle.wb_base.specs.declared.memory.OutOfMemory.{OutOfMemory}
 use Rattle.pas_syntax.specs.declared.tree.Ident.{Ident as CodeIdent}
 use Rattle.pas_syntax.specs.declared.tree.Numeral.{Numeral as CodeNumeral}
 use Rattle.pas_syntax.specs.declared.tree.Behind.{Behind as CodeBehind}
@@ -26,7 +27,6 @@ use Rattle.pas_types.specs.declared.scopes.Inner.{Inner as CodeInner}
 use Rattle.pas_types.specs.declared.scopes.Scopes.{Scopes as CodeScopes}
 use Rattle.pas_types.specs.Scopes.{Inner, Named, names, names_of, contains, standard_names, Outer, entity_in, required}
 use Rattle.pas_types.specs.Scopes.{unclear, idents_of, Scopes}
-use Rattle.pas_types.specs.declared.stop.Stop.{Stop}
 use Rattle.pas_types.specs.Labels.{label_at_end}
 use Rattle.pas_types.specs.Declarations.{named_slots, variables_of, program_scopes, cells_together, declared_labels}
 use Rattle.pas_types.specs.Declarations.{cells_of_variable}
@@ -36,7 +36,8 @@ use Rattle.pas_types.specs.ScopeViews.{all_idents, inner_view, outer_view, scope
 use Rattle.pas_types.specs.inner.Declared.{IsDeclared}
 use Rattle.pas_types.specs.inner.Checking.{HasParameters}
 use Rattle.pas_types.proofs.AddedLemmas.{slot_at, slots_push}
-use Rattle.pas_types.proofs.GlobalLemmas.{AreKnown, slots_names, slots_known, slots_there, variables_typed, clear_each}
+use Rattle.pas_types.proofs.GlobalLemmas.{AreKnown, slots_names, slots_known, slots_there, slots_held}
+use Rattle.pas_types.proofs.GlobalLemmas.{variables_typed, clear_each}
 
 abbrev texts : List (List ℕ) → List (List ℕ)
 texts parameters = filter (contains standard_names) parameters
@@ -312,6 +313,8 @@ module _ (program : Program) (fresh now : CodeScopes) (labels : List ℕ) (last 
     outer_is = (outer_same, start_clear);
     is_counted = record {
       names = slots_there 0 global 0 (variables_of declared text found);
+      slots = slots_held 0 global 0 (variables_of declared text found) (variables_typed 0 text tt found);
+      files = tt;
       globals = variables_typed 0 text tt found;
       cells_are = few_cells cells (cells_together [] (variables_of declared text found))
           (cells_are ∙ (sym (length-map now.globals (variable_view now.spellings.now)) ∙ ap length has.globals_are
@@ -360,7 +363,7 @@ and_true true true h k = refl
 and_true true false h k = cc
 and_true false other h k = cc
 
-pub ok_two : (A B C : Type 0) (result : Result (Unit {0}) Stop) → OnOk result A → OnOk result B → (A → B → C)
+pub ok_two : (A B C : Type 0) (result : Result (Unit {0}) OutOfMemory) → OnOk result A → OnOk result B → (A → B → C)
     → OnOk result C
 ok_two A B C (Ok done) a b h = h a b
 ok_two A B C (Err why) a b h = tt

@@ -3,6 +3,7 @@ use Rattle.std.proofs.Common.{◌≡◌, sym, ap, subst, ◌∙◌, ℕ, ◌+◌
 use Rattle.std.proofs.Common.{Result, Ok, Err, OnOk}
 use Rattle.std.proofs.lemmas.List.{append-nil}
 use Rattle.std.specs.Prelude.{option_map}
+use Rattle.wb_base.specs.declared.memory.OutOfMemory.{OutOfMemory}
 use Rattle.pas_syntax.specs.Tree.{Idents}
 use Rattle.pas_syntax.specs.Views.{ident_in, separated_in}
 use Rattle.pas_syntax.specs.ProgramViews.{type_in}
@@ -24,12 +25,12 @@ use Rattle.pas_types.proofs.AddedLemmas.{seen_length}
 use Rattle.pas_types.proofs.GlobalLemmas.{Adds, made_by}
 
 -- what holds where all that is answered is right
-pub ok_all : (A B C D : Type 0) (result : Result (Unit {0}) Stop) → OnOk result A → OnOk result B → OnOk result C
+pub ok_all : (A B C D : Type 0) (result : Result (Unit {0}) OutOfMemory) → OnOk result A → OnOk result B → OnOk result C
     → (A → B → C → D) → OnOk result D
 ok_all A B C D (Ok done) a b c h = h a b c
 ok_all A B C D (Err why) a b c h = tt
 
-pub ok_one : (A D : Type 0) (result : Result (Unit {0}) Stop) → OnOk result A → (A → D) → OnOk result D
+pub ok_one : (A D : Type 0) (result : Result (Unit {0}) OutOfMemory) → OnOk result A → (A → D) → OnOk result D
 ok_one A D (Ok done) a h = h a
 ok_one A D (Err why) a h = tt
 

@@ -1,4 +1,5 @@
 pub mod AsMany
+pub mod TypedLemmas
 pub mod TypesAsMany
 pub mod ExpressionsAsMany
 pub mod CallsAsMany
@@ -64,6 +65,7 @@ pub mod CountedLemmas
 pub mod GlobalLemmas
 pub mod LocalLemmas
 pub mod LocalRowLemmas
+pub mod WholeLemmas
 pub mod WithinLemmas
 pub mod LocalRowsLemmas
 pub mod FormalLemmas

@@ -72,7 +72,7 @@ module _ (program : Program) where
   abbrev at_constants : List Word
   at_constants = words_if (rows_words k.Const constant_row_words) program.constants ++ at_types
 
-  abbrev at_labels : List Word
+  abbrev pub at_labels : List Word
   at_labels = words_if labels_words program.labels ++ at_constants
 
   abbrev from_routines : Marks
@@ -87,7 +87,7 @@ module _ (program : Program) where
   abbrev from_constants : Marks
   from_constants = followed constants.marks from_types
 
-  abbrev from_labels : Marks
+  abbrev pub from_labels : Marks
   from_labels = followed (label_marks program.labels) from_constants
 
   many_main : AsMany at_main main.marks

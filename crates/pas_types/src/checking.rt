@@ -43,10 +43,15 @@ use pas_typed::typed::Statements;
 use pas_typed::types::PasType;
 use sqlite_items::Items;
 use std::alloc::{AllocError, Global};
+use wb_base::OutOfMemory;
 use wb_base::faults::{DUPLICATE_NAME, FILE_RULE, UNKNOWN_NAME, WRONG_LABEL, WRONG_TYPE};
 
 // The scopes of a program before its declarations.
-fn started<'p>(alloc: Global, spellings: &'p [u8], tree: &ProgramTree) -> Result<Scopes<'p>, Stop>
+pub(crate) fn started<'p>(
+    alloc: Global,
+    spellings: &'p [u8],
+    tree: &ProgramTree,
+) -> Result<Scopes<'p>, OutOfMemory>
     ensures declared { IfOk result (λ scopes. IsDeclared (spec.start (program_in spellings.now tree.now)) scopes
         None) }
     ensures spellings { IfOk result (λ scopes. scopes.spellings.now ≡ spellings.now) }
@@ -61,7 +66,7 @@ fn started<'p>(alloc: Global, spellings: &'p [u8], tree: &ProgramTree) -> Result
 }
 
 // The parameters of a program.
-fn parameters_of(alloc: Global, head: &ProgramHead) -> Result<Items<Ident>, AllocError>
+pub(crate) fn parameters_of(alloc: Global, head: &ProgramHead) -> Result<Items<Ident>, AllocError>
     ensures { (spellings : List ℕ) → IfOk result (λ idents. map (ident_in spellings) idents
         ≡ spec.parameter_idents (if_there (program_parameters_in spellings) head.now.parameters)) }
 {
@@ -72,7 +77,7 @@ fn parameters_of(alloc: Global, head: &ProgramHead) -> Result<Items<Ident>, Allo
 }
 
 // Takes names as those of the parameters of the program.
-fn add_parameters(scopes: &mut Scopes<'_>, idents: &[Ident]) -> Result<(), Stop>
+fn add_parameters(scopes: &mut Scopes<'_>, idents: &[Ident]) -> Result<(), OutOfMemory>
     ensures has { OnOk result ((before : List (List ℕ)) → HasParameters before scopes.old → HasParameters
         (fold with_name before (map (λ ident. spelled_in scopes.old.spellings.now ident.span) idents.now))
         scopes.new) }
@@ -89,7 +94,7 @@ fn add_parameters(scopes: &mut Scopes<'_>, idents: &[Ident]) -> Result<(), Stop>
 }
 
 // Takes a name as that of a parameter of the program. A text that needs no other declaration is declared so.
-fn add_parameter(scopes: &mut Scopes<'_>, ident: Ident) -> Result<(), Stop>
+fn add_parameter(scopes: &mut Scopes<'_>, ident: Ident) -> Result<(), OutOfMemory>
     ensures has { OnOk result ((before : List (List ℕ)) → HasParameters before scopes.old
         → HasParameters (with_name before (spelled_in scopes.old.spellings.now ident.span)) scopes.new) }
     ensures kept { scopes.new ≡ record scopes.old {
@@ -132,7 +137,11 @@ fn values_of(alloc: Global, numerals: &Separated<Numeral>) -> Result<Items<u32>,
 }
 
 // What the statements of a program mean, of which these are the labels.
-fn main_of(scopes: &Scopes<'_>, labels: Labels, body: &Compound) -> Result<Statements, Stop>
+pub(crate) fn main_of(
+    scopes: &Scopes<'_>,
+    labels: Labels,
+    body: &Compound,
+) -> Result<Statements, Stop>
     ensures { IsClear (scopes_view scopes.now) → scopes.now.inner ≡ None
         → labels ≡ known_labels (scopes_view scopes.now).outer.labels [] [] → (dot end : ℕ)
         → IsWhole (main_words (compound_in scopes.now.spellings.now body.now) dot end)
@@ -202,7 +211,7 @@ fn have_bodies(scopes: &Scopes<'_>) -> bool
 }
 
 // Each parameter of a program is a variable of its scope, of a lawful file type, and stands once.
-fn parameters_stand(scopes: &Scopes<'_>, head: &ProgramHead) -> Result<(), Stop>
+pub(crate) fn parameters_stand(scopes: &Scopes<'_>, head: &ProgramHead) -> Result<(), Stop>
     ensures { IsHeading (scopes_view scopes.now).outer
         (if_there (program_parameters_in scopes.now.spellings.now) head.now.parameters) result }
 {
@@ -267,7 +276,10 @@ fn is_file_variable(scopes: &Scopes<'_>, entity: Entity) -> bool
 }
 
 // The numbers of the variables of a program that its parameters are.
-fn file_numbers(scopes: &Scopes<'_>, parameters: &[Ident]) -> Result<Items<u32>, Stop>
+pub(crate) fn file_numbers(
+    scopes: &Scopes<'_>,
+    parameters: &[Ident],
+) -> Result<Items<u32>, OutOfMemory>
     ensures { IfOk result (λ files. files ≡ spec.file_numbers (scopes_view scopes.now).outer.globals
         (map (λ ident. spelled_in scopes.now.spellings.now ident.span) parameters.now)) }
 {
@@ -279,7 +291,11 @@ fn file_numbers(scopes: &Scopes<'_>, parameters: &[Ident]) -> Result<Items<u32>,
 }
 
 // Puts the number of a variable with this name behind others, if there is one.
-fn add_number(scopes: &Scopes<'_>, numbers: &mut Items<u32>, ident: Ident) -> Result<(), Stop>
+fn add_number(
+    scopes: &Scopes<'_>,
+    numbers: &mut Items<u32>,
+    ident: Ident,
+) -> Result<(), OutOfMemory>
     ensures { OnOk result (numbers.new ≡ numbers.old ++ option_to_list (position
         (λ found. bytes_eq found.name (spelled_in scopes.now.spellings.now ident.span))
         (scopes_view scopes.now).outer.globals)) }

@@ -27,21 +27,21 @@ use crate::names::Entity;
 use crate::new_names::{Region, new_names};
 use crate::noting::note;
 use crate::scopes::Scopes;
-use crate::stop::{Stop, count_of};
+use crate::stop::count_of;
 use crate::type_forms::form_of;
 use pas_syntax::tree::{Ident, Idents, Rows, VariableRow};
 use pas_typed::typed::{Home, Mode, Slot, Variable};
 use pas_typed::types::PasType;
 use std::alloc::AllocError;
-use wb_base::Fault;
 use wb_base::faults::{FILE_RULE, TOO_LARGE};
+use wb_base::{Fault, OutOfMemory};
 
 // Declares variables of the program.
 pub(crate) fn globals_of(
     scopes: &mut Scopes<'_>,
     noted: &mut Option<Fault>,
     rows: Option<&Rows<VariableRow>>,
-) -> Result<(), Stop>
+) -> Result<(), OutOfMemory>
     ensures declares { OnOk result (Declares
         (words_if (rows_words k.Var variable_row_words)
         (if_there (rows_in scopes.old.spellings.now (variable_row_in scopes.old.spellings.now))
@@ -68,7 +68,7 @@ fn global_rows(
     scopes: &mut Scopes<'_>,
     noted: &mut Option<Fault>,
     rows: &Rows<VariableRow>,
-) -> Result<(), Stop>
+) -> Result<(), OutOfMemory>
     ensures declares { OnOk result (Declares
         (rows_words k.Var variable_row_words
         (rows_in scopes.old.spellings.now (variable_row_in scopes.old.spellings.now) rows.now))
@@ -94,7 +94,7 @@ fn global_row(
     scopes: &mut Scopes<'_>,
     noted: &mut Option<Fault>,
     row: &VariableRow,
-) -> Result<(), Stop>
+) -> Result<(), OutOfMemory>
     ensures declares { OnOk result (Declares (variable_row_words (variable_row_in scopes.old.spellings.now row.now))
         (λ outer. spec.global_row outer (variable_row_in scopes.old.spellings.now row.now))
         scopes.old noted.old scopes.new noted.new) }
@@ -122,7 +122,7 @@ fn global_type(
     scopes: &mut Scopes<'_>,
     noted: &mut Option<Fault>,
     row: &VariableRow,
-) -> Result<Option<PasType>, Stop>
+) -> Result<Option<PasType>, OutOfMemory>
     ensures value { IfOk result (λ found. (outer : name.Outer) → IsLike outer scopes.old
         → option_map (made_view scopes.new) found
         ≡ (global_form outer (type_in scopes.old.spellings.now row.now.form)).value) }
@@ -203,7 +203,11 @@ pub(crate) fn with_cells(cells: u64, names: &Idents, each: u64) -> u64
 }
 
 // Adds variables of one type.
-fn add_globals(scopes: &mut Scopes<'_>, names: &Idents, pas_type: PasType) -> Result<(), Stop>
+fn add_globals(
+    scopes: &mut Scopes<'_>,
+    names: &Idents,
+    pas_type: PasType,
+) -> Result<(), OutOfMemory>
     ensures names { OnOk result (scopes.new.names ≡ with_each scopes.old.names
         (spec.named_slots global (length scopes.old.globals) (spec.variables_of declared (type_view pas_type)
         (spellings_of (separated_in (ident_in scopes.old.spellings.now) names.now))))) }
@@ -234,7 +238,7 @@ pub(crate) fn add_global(
     scopes: &mut Scopes<'_>,
     ident: Ident,
     pas_type: PasType,
-) -> Result<(), Stop>
+) -> Result<(), OutOfMemory>
     ensures names { OnOk result (scopes.new.names ≡ with_new scopes.old.names
         (spelled_in scopes.old.spellings.now ident.span) (name.variable (record {
           home = global;
@@ -265,7 +269,7 @@ pub(crate) fn add_global(
 }
 
 // Declares names of variables of which nothing is known.
-fn add_unclear(scopes: &mut Scopes<'_>, names: &Idents) -> Result<(), Stop>
+fn add_unclear(scopes: &mut Scopes<'_>, names: &Idents) -> Result<(), OutOfMemory>
     ensures names { OnOk result (scopes.new.names ≡ with_each scopes.old.names (spec.unclear_names
         (spellings_of (separated_in (ident_in scopes.old.spellings.now) names.now)))) }
     ensures kept { scopes.new ≡ record scopes.old { names = scopes.new.names } }

@@ -22,6 +22,7 @@ mod name_sets;
 mod names;
 mod new_names;
 mod noting;
+mod programs;
 mod results;
 mod routines;
 mod scopes;
