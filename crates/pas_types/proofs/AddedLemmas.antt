@@ -121,7 +121,7 @@ module _ (home : CodeHome) (mode : CodeMode) (type : CodePasType) where
   abbrev made_of : List (List ℕ) → List Variable
   made_of spellings = variables_of (mode_view mode) (type_view type) spellings
 
-  slots_push : (n : ℕ) (spellings : List (List ℕ)) (name : List ℕ)
+  pub slots_push : (n : ℕ) (spellings : List (List ℕ)) (name : List ℕ)
       → named_slots (home_view home) n (made_of (spellings ++ name ∷ []))
       ≡ named_slots (home_view home) n (made_of spellings) ++ names name (slot_at (n + length spellings)) ∷ []
   slots_push n [] name = ap (λ (number : ℕ). names name (slot_at number) ∷ []) (omega arith)

@@ -32,7 +32,6 @@ use Rattle.pas_types.specs.inner.Answers.{Means, Stands}
 use Rattle.pas_types.specs.declared.judged.Judged.{Judged as CodeJudged}
 use Rattle.pas_typed.specs.declared.typed.Variable.{Variable as CodeVariable}
 use Rattle.pas_types.specs.inner.Arguments.{Taker, taken_as, taken_by, is_asked_of, not_asked, passing_in}
-use Rattle.pas_types.specs.inner.ExpressionAnswers.{SettlesBefore}
 use Rattle.pas_types.proofs.AnswerLemmas.{checked_fails, checked_stands, made_ends, ends_moved, word_misses}
 use Rattle.pas_types.proofs.PartLemmas.{alone}
 
@@ -89,17 +88,11 @@ asked_demand table typed.eoln value false is_text named asked =
     ap (λ (is : Bool). if is then unless (same_type (type_of value) text) (wrong FILE_RULE) else wrong WRONG_TYPE ∷ [])
     named
 
--- a value that is no place is no reference, and no file
+-- a value that is no place is no reference
 pub no_reference : (type : PasType) (value : Value) → place_in value ≡ None
     → is_reference type (place_in value) ≡ true → ⊥
 no_reference type value none is =
     let no : is_reference type (place_in value) ≡ false = ap (is_reference type) none in cc
-
-pub no_file : (table : Table) (value : Value) → place_in value ≡ None → is_some (file_in table value) ≡ true → ⊥
-no_file table value none is =
-    let no : is_some (file_in table value) ≡ false =
-    ap (λ (found : Option Place). is_some (option_and_then (λ place. if is_file table place then Some place else None)
-    found)) none in cc
 
 -- an argument of an expression is its value
 bare_value : (value : Option Value) → both (λ value nothing. value) value (Some bare) ≡ value
@@ -143,21 +136,6 @@ checked_met {A = A} demand part value h = by part.value h
     by : (found : Option A) → (checked_by demand part.marks found).value ≡ Some value → demand value ≡ []
     by None h = absurd (none-some value h)
     by (Some found) h = kept found (demand found) refl h
-
--- the place that a file is
-unless_met : (holds : Bool) → unless holds (wrong WRONG_TYPE) ≡ [] → holds ≡ true
-unless_met true h = refl
-unless_met false h = cc
-
-pub alone_settles : (line : ℕ) (words : List Word) (table : Table) (part : Judged Value) (value : Value)
-    (result : Result code_place.Place Stop) → IfOk result (λ place. value ≡ typed.read (place_view place))
-    → OnErr result (place_in value ≡ None) → Means words (checked (file_only table) part) value
-    → SettlesBefore line words (checked (file_only table) part) (λ place. typed.read (place_view place)) result
-alone_settles line words table part value (Ok place) is none h =
-    subst (λ (found : Value). Means words (checked (file_only table) part) found) is h
-alone_settles line words table part value (Err why) is none h =
-    absurd (no_file table value none
-    (unless_met (is_some (file_in table value)) (checked_met (file_only table) part value h.known)))
 
 -- a name that is called without its arguments
 pub name_misses : (word : Word) (number : ℕ) (type : PasType) (parameters : List Variable) → (parameters ≡ [] → ⊥)

@@ -134,7 +134,7 @@ abbrev pub AreKnown : List Named → Type 0
 AreKnown [] = ⊤
 AreKnown (named ∷ found) = (named.entity ≢ unclear) × AreKnown found
 
-clear_each : (outer : Outer) (more : List Named) → AreKnown more → IsClear (program_scopes outer)
+pub clear_each : (outer : Outer) (more : List Named) → AreKnown more → IsClear (program_scopes outer)
     → IsClear (program_scopes (record outer { names = outer.names ++ more }))
 clear_each outer [] known h =
     subst (λ (found : List Named). IsClear (program_scopes (record outer { names = found })))
@@ -146,11 +146,11 @@ clear_each outer (first ∷ more) known h =
     (clear_push outer first h known.0))
 
 -- variables as names
-slots_known : (home : Home) (n : ℕ) (variables : List Variable) → AreKnown (named_slots home n variables)
+pub slots_known : (home : Home) (n : ℕ) (variables : List Variable) → AreKnown (named_slots home n variables)
 slots_known home n [] = tt
 slots_known home n (first ∷ variables) = ((λ is. cc), slots_known home (suc n) variables)
 
-slots_there : (rows : ℕ) (home : Home) (n : ℕ) (variables : List Variable)
+pub slots_there : (rows : ℕ) (home : Home) (n : ℕ) (variables : List Variable)
     → AreThere rows (named_slots home n variables)
 slots_there rows home n [] = tt
 slots_there rows home n (first ∷ variables) = (tt, slots_there rows home (suc n) variables)
@@ -168,13 +168,13 @@ unclear_there : (rows : ℕ) (spellings : List (List ℕ)) → AreThere rows (un
 unclear_there rows [] = tt
 unclear_there rows (name ∷ spellings) = (tt, unclear_there rows spellings)
 
-slots_names : (home : Home) (n : ℕ) (found : PasType) (spellings : List (List ℕ))
+pub slots_names : (home : Home) (n : ℕ) (found : PasType) (spellings : List (List ℕ))
     → names_of (named_slots home n (variables_of declared found spellings)) ≡ spellings
 slots_names home n found [] = refl
 slots_names home n found (name ∷ spellings) =
     ap (λ (rest : List (List ℕ)). name ∷ rest) (slots_names home (suc n) found spellings)
 
-variables_typed : (rows : ℕ) (found : PasType) → IsAmong rows found → (spellings : List (List ℕ))
+pub variables_typed : (rows : ℕ) (found : PasType) → IsAmong rows found → (spellings : List (List ℕ))
     → AreTyped rows (variables_of declared found spellings)
 variables_typed rows found h [] = tt
 variables_typed rows found h (name ∷ spellings) = (h, variables_typed rows found h spellings)

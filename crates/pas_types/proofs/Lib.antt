@@ -84,3 +84,8 @@ pub mod GatherLemmas
 pub mod TransferItems
 pub mod FileLemmas
 pub mod TransferParts
+pub mod WriteParts
+pub mod BegunLemmas
+pub mod MainLemmas
+pub mod ParameterLemmas
+pub mod ProgramLemmas

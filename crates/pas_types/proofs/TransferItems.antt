@@ -1,11 +1,11 @@
 -- What is read or written, argument by argument: each shows as many lists of faults as it has words.
-use Rattle.std.proofs.Common.{Some, None, ◌∙◌, ℕ, List, Option}
+use Rattle.std.proofs.Common.{refl, Some, None, ◌∙◌, ℕ, List, Option}
 use Rattle.pas_syntax.specs.declared.tree.Argument.{Argument as CodeArgument}
 use Rattle.pas_syntax.specs.ProgramViews.{argument_in}
 use Rattle.pas_syntax.specs.Words.{Word}
 use Rattle.pas_typed.specs.Types.{PasType, component_of}
 use Rattle.pas_typed.specs.TypeOf.{type_of_place}
-use Rattle.pas_types.specs.inner.Transfers.{component_of_item}
+use Rattle.pas_types.specs.inner.Transfers.{component_of_item, item_written}
 use Rattle.pas_typed.specs.Typed.{Value, Place}
 use Rattle.pas_types.specs.Marks.{Judged}
 use Rattle.pas_types.specs.Scopes.{Scopes}
@@ -14,7 +14,7 @@ use Rattle.pas_types.specs.Calls.{Actual, actual_of, read_item, read_demand, wit
 use Rattle.pas_types.specs.inner.Listed.{item_at}
 use Rattle.pas_types.proofs.AsMany.{AsMany}
 use Rattle.pas_types.proofs.ExpressionsAsMany.{met_count}
-use Rattle.pas_types.proofs.CallsAsMany.{argument_many}
+use Rattle.pas_types.proofs.CallsAsMany.{argument_many, text_count, on_text_count}
 
 module _ (scopes : Scopes) (spellings : List ℕ) (n : ℕ) where
   pub read_many : (file : Option Place) (before : Word) (argument : CodeArgument)
@@ -48,3 +48,14 @@ module _ (scopes : Scopes) (spellings : List ℕ) (n : ℕ) where
       (item_at scopes spellings n (bytes_item file) before argument).part.marks
   bytes_many None = component_many None
   bytes_many (Some file) = component_many (component_of scopes.outer.types (type_of_place file))
+
+  pub written_many : (before : Word) (argument : CodeArgument)
+      → AsMany (item_at scopes spellings n (item_written scopes.outer.types) before argument).words
+      (item_at scopes spellings n (item_written scopes.outer.types) before argument).part.marks
+  written_many before argument =
+      let actual : Actual = actual_of scopes (argument_in spellings argument) in
+      record {
+        same = on_text_count scopes.outer.types actual actual.text refl
+            (λ bytes h. text_count scopes (argument_in spellings argument).value bytes h)
+            ∙ (argument_many scopes n (argument_in spellings argument)).same;
+      }

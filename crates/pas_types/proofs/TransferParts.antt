@@ -466,7 +466,7 @@ reading_seen scopes code.WholeLine actuals = refl
 
 -- components that are written, by the file
 module _ (scopes : Scopes) (spellings : List ℕ) (n : ℕ) where
-  bytes_seen : (transfer : Transfer) (found : Option Place) → transfer.file ≡ found
+  pub bytes_seen : (transfer : Transfer) (found : Option Place) → transfer.file ≡ found
       → ((file : Place) → found ≡ Some file → is_text file ≡ false)
       → write_items scopes.outer.types transfer found
       ≡ carried items_alone (bytes_item scopes spellings n) typed.writes_bytes transfer

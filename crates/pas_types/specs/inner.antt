@@ -9,6 +9,7 @@ pub mod TypeAnswers
 pub mod FlowViews
 pub mod TargetViews
 pub mod CaseViews
+pub mod Checking
 pub mod Arguments
 pub mod ExpressionAnswers
 pub mod NameAnswers

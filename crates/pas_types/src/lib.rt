@@ -5,6 +5,7 @@ mod assignments;
 mod blocks;
 mod calls;
 mod cases;
+mod checking;
 mod constants;
 mod declarations;
 mod expressions;

@@ -21,12 +21,6 @@ parenthesized_of part = judged (joined (quiet ∷ part.marks ∷ quiet ∷ [])) 
 abbrev pub char_value : Judged ConstantValue → Judged Value
 char_value part = judged part.marks (known (λ text. typed.constant text.base text.value) part.value)
 
--- what is answered of a part behind which a word in this line stands, which shows what is missing before it
-abbrev pub SettlesBefore : {X A : Type 0} → ℕ → List Word → Judged A → (X → A) → Result X Stop → Type 0
-SettlesBefore line words part view (Ok found) = Means words part (view found)
-SettlesBefore line words part view (Err why) =
-    (other : Stop) × (why ≡ stop_before line other) × ShowsBy words part.marks other
-
 -- what a part makes of a place, or that there is none of its name
 abbrev pub Finds : (Place → Judged Place) → Option code_part.Part → Type 0
 Finds part (Some found) = (place : Place) → part place ≡ means (part_view found place)
