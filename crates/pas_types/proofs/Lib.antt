@@ -73,6 +73,8 @@ pub mod RoutineLemmas
 pub mod FirstHeadingLemmas
 pub mod SecondLemmas
 pub mod BlockLemmas
+pub mod EnterLemmas
+pub mod BlockSteps
 pub mod GlobalRowLemmas
 pub mod AddedLemmas
 pub mod RowLemmas
