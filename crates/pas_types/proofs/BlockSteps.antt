@@ -28,7 +28,7 @@ use Rattle.pas_types.specs.inner.BlockAnswers.{list_in, end_faults, body_marks, 
 use Rattle.pas_types.specs.inner.BlockAnswers.{ended, list_within, block_marks, block_words, Leads}
 use Rattle.pas_types.proofs.AsMany.{AsMany, one, and_then, all, next_word}
 use Rattle.pas_types.proofs.StatementsAsMany.{statements_many}
-use Rattle.pas_types.proofs.DeclarationsAsMany.{local_rows_many}
+use Rattle.pas_types.proofs.DeclarationsAsMany.{labels_many, local_rows_many}
 use Rattle.pas_types.proofs.SettleLemmas.{quiet_behind}
 use Rattle.pas_types.proofs.LocalRowLemmas.{fails_front, fails_behind}
 use Rattle.pas_types.proofs.WithinLemmas.{seen_is}
@@ -84,6 +84,10 @@ module _ (outer : Outer) (number : ℕ) (sort : Sort) (labels : Option Labels) (
       and_then part.marks closed_marks
       (local_rows_many (begun outer number sort labels variables body line)
       (inner_of (begun outer number sort labels variables body line) number numbers) variables) many
+
+  pub block_many : AsMany (block_words outer number sort labels variables body line)
+      (block_marks outer number sort labels variables body line)
+  block_many = and_then (label_marks labels) rest (labels_many labels) rest_many
 
   pub labels_fail : (why : Stop) → FailsBy at_labels (label_marks labels) why → Fails why
   labels_fail why h = fails_front at_labels (at_variables ++ closed) (label_marks labels) rest rest_many why h
@@ -148,7 +152,7 @@ module _ (outer : Outer) (number : ℕ) (sort : Sort) (labels : Option Labels) (
         (subst (λ (all : List ℕ). IsBody (scopes_view now) sort all body line view result) labels_are h)
 
     -- its body
-    abbrev made : List code_labelled.Labelled → CodeBody
+    abbrev pub made : List code_labelled.Labelled → CodeBody
     made statements = record {
       routine = inner.number;
       variables = inner.variables;

@@ -20,3 +20,4 @@ pub mod Listed
 pub mod Locals
 pub mod RoutineAnswers
 pub mod BlockAnswers
+pub mod RoutineStands

@@ -1,5 +1,6 @@
 -- What functions that look at blocks of routines answer.
-use Rattle.std.specs.Prelude.{◌≡◌, false, ℕ, zero, suc, List, [], ◌∷◌, ◌++◌, Option, Some, None, Result, Ok, Err}
+use Rattle.std.specs.Prelude.{◌≡◌, false, ℕ, zero, suc, List, [], ◌∷◌, ◌++◌, map, Option, Some, None, option_to_list}
+use Rattle.std.specs.Prelude.{Result, Ok, Err}
 use Rattle.pas_tokens.specs.Cutting.{Wrong}
 use Rattle.pas_tokens.specs.declared.kinds.Kind.TheVariants as k
 use Rattle.pas_syntax.specs.Tree.{Compound, Labels, Rows, VariableRow}
@@ -15,7 +16,7 @@ use Rattle.pas_types.specs.Scopes.{Scopes, Outer}
 use Rattle.pas_types.specs.Labels.{labels_of_list}
 use Rattle.pas_types.specs.Statements.{statements_of}
 use Rattle.pas_types.specs.Declarations.{declared_labels, label_marks, routine_scopes, local_rows, InnerStage}
-use Rattle.pas_types.specs.Routines.{Sort, label_missing, result_missing, inner_of, with_body, body_made}
+use Rattle.pas_types.specs.Routines.{Sort, label_missing, result_missing, inner_of, with_body, body_made, RoutineStage}
 use Rattle.pas_types.specs.ScopeViews.{outer_view}
 use Rattle.pas_types.specs.inner.Answers.{IsQuiet, FailsBy}
 use Rattle.pas_types.specs.inner.RoutineAnswers.{IsReady}
@@ -86,3 +87,16 @@ module _ (outer : Outer) (number : ℕ) (sort : Sort) (labels : Option Labels) (
   abbrev pub IsBlock : (CodeBody → typed.Body) → CodeScopes → Result CodeBody Stop → Type 0
   IsBlock view scopes (Ok found) = Leads view scopes found
   IsBlock view scopes (Err why) = FailsBy block_words block_marks why
+
+-- a routine that was gone through, and its body, if it has one
+pub record Goes (words : List Word) (stage : RoutineStage) (view : CodeBody → typed.Body) (scopes : CodeScopes)
+    (found : Option CodeBody) : Type 0 where
+  pub still : IsQuiet words stage.marks false
+  pub ready : IsReady scopes
+  pub outer_is : outer_view scopes ≡ stage.outer
+  pub bodies_are : stage.bodies ≡ Some (map view (option_to_list found))
+
+abbrev pub IsRoutine : List Word → RoutineStage → (CodeBody → typed.Body) → CodeScopes
+    → Result (Option CodeBody) Stop → Type 0
+IsRoutine words stage view scopes (Ok found) = Goes words stage view scopes found
+IsRoutine words stage view scopes (Err why) = FailsBy words stage.marks why
