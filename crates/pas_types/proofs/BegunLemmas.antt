@@ -36,7 +36,8 @@ use Rattle.pas_types.specs.ScopeViews.{all_idents, inner_view, outer_view, scope
 use Rattle.pas_types.specs.inner.Declared.{IsDeclared}
 use Rattle.pas_types.specs.inner.Checking.{HasParameters}
 use Rattle.pas_types.proofs.AddedLemmas.{slot_at, slots_push}
-use Rattle.pas_types.proofs.GlobalLemmas.{AreKnown, slots_names, slots_known, slots_there, variables_typed, clear_each}
+use Rattle.pas_types.proofs.GlobalLemmas.{AreKnown, slots_names, slots_known, slots_there, slots_held}
+use Rattle.pas_types.proofs.GlobalLemmas.{variables_typed, clear_each}
 
 abbrev texts : List (List ℕ) → List (List ℕ)
 texts parameters = filter (contains standard_names) parameters
@@ -312,6 +313,8 @@ module _ (program : Program) (fresh now : CodeScopes) (labels : List ℕ) (last 
     outer_is = (outer_same, start_clear);
     is_counted = record {
       names = slots_there 0 global 0 (variables_of declared text found);
+      slots = slots_held 0 global 0 (variables_of declared text found) (variables_typed 0 text tt found);
+      files = tt;
       globals = variables_typed 0 text tt found;
       cells_are = few_cells cells (cells_together [] (variables_of declared text found))
           (cells_are ∙ (sym (length-map now.globals (variable_view now.spellings.now)) ∙ ap length has.globals_are

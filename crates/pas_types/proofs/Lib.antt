@@ -77,10 +77,8 @@ pub mod EnterLemmas
 pub mod BlockSteps
 pub mod BlockDone
 pub mod RoutineWords
-pub mod RoutineSteps
 pub mod FollowLemmas
 pub mod FollowRoutines
-pub mod ThroughLemmas
 pub mod GlobalRowLemmas
 pub mod AddedLemmas
 pub mod RowLemmas

@@ -103,8 +103,8 @@ returns-in_err-demand-2 c inner h labels_are program_is begin line =
     (c.is_given.ensures old.spellings.now))
     (sym c.in_err-demand-2.was ∙ c.demand-2.ensures))
 
-pub returns-in_ok-demand-2 : goal.returns-in_ok-demand-2
-returns-in_ok-demand-2 c inner h labels_are program_is begin line =
+pub returns : goal.returns
+returns c inner h labels_are program_is begin line =
     let old : CodeScopes = c.args.scopes.now in
     let scopes = scopes_view old in
     let list : Statements = statements_in old.spellings.now c.args.list.now in
