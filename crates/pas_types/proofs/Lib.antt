@@ -77,8 +77,10 @@ pub mod EnterLemmas
 pub mod BlockSteps
 pub mod BlockDone
 pub mod RoutineWords
+pub mod RoutineSteps
 pub mod FollowLemmas
 pub mod FollowRoutines
+pub mod ThroughLemmas
 pub mod GlobalRowLemmas
 pub mod AddedLemmas
 pub mod RowLemmas

@@ -23,6 +23,7 @@ mod names;
 mod new_names;
 mod noting;
 mod results;
+mod routines;
 mod scopes;
 mod simple_types;
 mod statements;
