@@ -75,6 +75,14 @@ pub mod RoutineLemmas
 pub mod FirstHeadingLemmas
 pub mod SecondLemmas
 pub mod BlockLemmas
+pub mod EnterLemmas
+pub mod BlockSteps
+pub mod BlockDone
+pub mod RoutineWords
+pub mod RoutineSteps
+pub mod FollowLemmas
+pub mod FollowRoutines
+pub mod ThroughLemmas
 pub mod GlobalRowLemmas
 pub mod AddedLemmas
 pub mod RowLemmas

@@ -182,7 +182,7 @@ pub local_typed : (rows : ℕ) (mode : Mode) (found : PasType) → IsAmong rows 
 local_typed rows mode found h [] = tt
 local_typed rows mode found h (name ∷ spellings) = (h, local_typed rows mode found h spellings)
 
-clear_each : (found more : List Named) (name : List ℕ) (outside : Option Entity) → AreKnown more
+pub clear_each : (found more : List Named) (name : List ℕ) (outside : Option Entity) → AreKnown more
     → or_else (entity_in found name) outside ≢ Some unclear
     → or_else (entity_in (found ++ more) name) outside ≢ Some unclear
 clear_each found [] name outside known h =

@@ -203,7 +203,7 @@ routine_by_many found sort (tree.block labels variables body) head end h =
       );
     }
 
-routine_many : (outer : Outer) (found : Routine) → AsMany (routine_words found) (routine_of outer found).marks
+pub routine_many : (outer : Outer) (found : Routine) → AsMany (routine_words found) (routine_of outer found).marks
 routine_many outer found =
     let head : HeadingParts = head_of found.heading in
     let semicolon : List Word = at 0 k.Semicolon found.behind_heading ∷ [] in

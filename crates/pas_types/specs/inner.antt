@@ -21,3 +21,4 @@ pub mod Locals
 pub mod RoutineAnswers
 pub mod BlockAnswers
 pub mod Programs
+pub mod RoutineStands
