@@ -1,4 +1,4 @@
-use Rattle.std.proofs.Common.{◌≡◌, sym, ap, subst, ◌∙◌, ℕ, Bool, List, Option, Some, None, Result, Ok, Err}
+use Rattle.std.proofs.Common.{not, true, false, ◌≡◌, sym, ap, subst, ◌∙◌, ℕ, Bool, List, Option, Some, None, Result, Ok, Err}
 use Rattle.std.proofs.lemmas.Result.{err_from_is_err_and}
 use Rattle.wb_base.specs.declared.faults.TheConstants.{WRONG_TYPE}
 use Rattle.pas_syntax.specs.declared.tree.Body.{Body as CodeBodyTree}
@@ -11,8 +11,12 @@ use Rattle.pas_types.specs.declared.stop.Stop.{Stop}
 use Rattle.pas_types.specs.inner.Stopping.{demanded}
 use Rattle.pas_types.specs.inner.RoutineAnswers.{sort_view, awaited_at}
 use Rattle.pas_types.proofs.LocalRowLemmas.{stopped}
-use Rattle.pas_types.proofs.RoutineSteps.{Whole, some_of, forward_fails, forward_goes, block_fails, block_goes, none_is}
+use Rattle.pas_types.proofs.RoutineSteps.{Whole, some_of, forward_fails, forward_goes, block_fails, block_goes}
 use Rattle.pas_types.proofs.routines.body_behind.Goals as goal
+
+unnot : (b c : Bool) → not b ≡ c → b ≡ not c
+unnot true c is = ap not is
+unnot false c is = ap not is
 
 pub returns-in_err-demand-in-Forward-clause-goes : goal.returns-in_err-demand-in-Forward-clause-goes
 returns-in_err-demand-in-Forward-clause-goes c words stage heads second program_is end =
@@ -28,7 +32,7 @@ returns-in_err-demand-in-Forward-clause-goes c words stage heads second program_
     (forward_fails words stage old c.args.number heads sort view end c.in-Forward.line why
     (sym c.in_err-demand-in-Forward.was ∙ (c.demand.ensures
     ∙ ap (λ (b : Bool). demanded b WRONG_TYPE c.in-Forward.line)
-    (c.is_none.ensures ∙ none_is c.args.found stage.is_second second)))))
+    (unnot c.is_none.result stage.is_second (sym c.is_none.ensures ∙ second))))))
 
 pub returns-in_ok-demand-in-Forward-clause-goes : goal.returns-in_ok-demand-in-Forward-clause-goes
 returns-in_ok-demand-in-Forward-clause-goes c words stage heads second program_is end =
@@ -41,7 +45,7 @@ returns-in_ok-demand-in-Forward-clause-goes c words stage heads second program_i
     (forward_goes words stage old c.args.number heads sort view end c.in-Forward.line
     (sym c.in_ok-demand-in-Forward.was ∙ (c.demand.ensures
     ∙ ap (λ (b : Bool). demanded b WRONG_TYPE c.in-Forward.line)
-    (c.is_none.ensures ∙ none_is c.args.found stage.is_second second))))
+    (unnot c.is_none.result stage.is_second (sym c.is_none.ensures ∙ second)))))
 
 pub returns-in_err-block_of-in-Block-clause-goes : goal.returns-in_err-block_of-in-Block-clause-goes
 returns-in_err-block_of-in-Block-clause-goes c words stage heads second program_is end =
