@@ -80,27 +80,28 @@ module _ (parameters : List Variable) (kinds : Kinds) (before : MachineState) wh
       LeadsTo {T = Unit {0}} kinds Any (λ most. begin_files 0 parameters) (λ most. begin_from parameters i) before now
 
   pub leads_none : Leads 0 before
-  leads_none end result does most = does most
+  leads_none = record { each = λ end result does most. does most }
 
   module _ (i : ℕ) (between : MachineState) (leads : Leads i between) (found : Variable)
       (is : slice_get parameters i ≡ Some found) (name : List ℕ) (named : name ≡ found.name) (now : MachineState) where
     pub leads_next : ((most : ℕ) → Does {T = Unit {0}} most kinds kinds Any (begun_by i name) between now (Ok (tt {0})))
         → Leads (i + 1) now
-    leads_next does end result rest most =
-        leads end result (λ most. subst (λ (doing : Doing Store (Unit {0})). Does most kinds kinds Any doing between end
+    leads_next does = record {
+      each = λ end result rest most. leads.each end result (λ most. subst (λ (doing : Doing Store (Unit {0})). Does most kinds kinds Any doing between end
         result) (sym (next_from parameters i found is))
         (does_next {T = Unit {0}} {U = Unit {0}} most kinds kinds kinds Any Any (begun_by i found.name)
         (λ done. begin_from parameters (i + 1)) between now end (tt {0}) result
         (goes_begun i found.name)
         (subst (λ (name : List ℕ). Does {T = Unit {0}} most kinds kinds Any (begun_by i name) between now (Ok (tt {0})))
         named (does most))
-        (λ done any. rest most))) most
+        (λ done any. rest most))) most;
+    }
 
     pub leads_stop : (why : Stop)
         → ((most : ℕ) → Does {T = Unit {0}} most kinds kinds Any (begun_by i name) between now (Err why))
         → (most : ℕ) → Does {T = Unit {0}} most kinds kinds Any (begin_files 0 parameters) before now (Err why)
     leads_stop why does most =
-        leads now (Err why) (λ most. subst (λ (doing : Doing Store (Unit {0})). Does {T = Unit {0}} most kinds kinds Any
+        leads.each now (Err why) (λ most. subst (λ (doing : Doing Store (Unit {0})). Does {T = Unit {0}} most kinds kinds Any
         doing between now (Err why)) (sym (next_from parameters i found is))
         (does_stop {T = Unit {0}} {U = Unit {0}} most kinds kinds kinds Any Any (begun_by i found.name)
         (λ done. begin_from parameters (i + 1)) between now why
@@ -117,7 +118,7 @@ module _ (parameters : List Variable) (kinds : Kinds) (before : MachineState) wh
   pub leads_all : (i : ℕ) (now : MachineState) → Leads i now → length parameters ≤ i → (most : ℕ)
       → Does {T = Unit {0}} most kinds kinds Any (begin_files 0 parameters) before now (Ok (tt {0}))
   leads_all i now leads less most =
-      leads now (Ok (tt {0})) (λ most. subst (λ (rest : List Variable). Does {T = Unit {0}} most kinds kinds Any
+      leads.each now (Ok (tt {0})) (λ most. subst (λ (rest : List Variable). Does {T = Unit {0}} most kinds kinds Any
       (begin_files i rest) now now (Ok (tt {0}))) (sym (drop_past i parameters less))
       (does_pure most kinds Any (tt {0}) (tt {0}) now tt)) most
 
