@@ -88,13 +88,13 @@ module _ (parameters : List Variable) (kinds : Kinds) (before : MachineState) wh
         → Leads (i + 1) now
     leads_next does = record {
       each = λ end result rest most. leads.each end result (λ most. subst (λ (doing : Doing Store (Unit {0})). Does most kinds kinds Any doing between end
-        result) (sym (next_from parameters i found is))
-        (does_next {T = Unit {0}} {U = Unit {0}} most kinds kinds kinds Any Any (begun_by i found.name)
-        (λ done. begin_from parameters (i + 1)) between now end (tt {0}) result
-        (goes_begun i found.name)
-        (subst (λ (name : List ℕ). Does {T = Unit {0}} most kinds kinds Any (begun_by i name) between now (Ok (tt {0})))
-        named (does most))
-        (λ done any. rest most))) most;
+          result) (sym (next_from parameters i found is))
+          (does_next {T = Unit {0}} {U = Unit {0}} most kinds kinds kinds Any Any (begun_by i found.name)
+          (λ done. begin_from parameters (i + 1)) between now end (tt {0}) result
+          (goes_begun i found.name)
+          (subst (λ (name : List ℕ). Does {T = Unit {0}} most kinds kinds Any (begun_by i name) between now (Ok (tt {0})))
+          named (does most))
+          (λ done any. rest most))) most;
     }
 
     pub leads_stop : (why : Stop)

@@ -96,77 +96,77 @@ module _ (old within now : CodeScopes) (ready : IsReady old) (inner : CodeInner)
 
   -- behind them
   module _ (passes : PassesWithin (Ok tt)) (kept_on : now ≡ record within { types = now.types; inner = now.inner })
-      where
-    abbrev passed : IsQuiet (words_if (rows_words k.Var variable_row_words) variables) part.marks false
-    passed = (passes_there (Ok tt) passes).0
+    where
+      abbrev passed : IsQuiet (words_if (rows_words k.Var variable_row_words) variables) part.marks false
+      passed = (passes_there (Ok tt) passes).0
 
-    abbrev pub leaves : Leaves part now
-    leaves = (passes_there (Ok tt) passes).1
+      abbrev pub leaves : Leaves part now
+      leaves = (passes_there (Ok tt) passes).1
 
-    pub now_spellings : now.spellings.now ≡ spellings
-    now_spellings = ap (λ (s : CodeScopes). s.spellings.now) kept_on ∙ same_spellings
+      pub now_spellings : now.spellings.now ≡ spellings
+      now_spellings = ap (λ (s : CodeScopes). s.spellings.now) kept_on ∙ same_spellings
 
-    outer_now : outer_view now ≡ record begins { types = (outer_view now).types }
-    outer_now =
-        ap outer_view kept_on
-        ∙ (ap (λ (from : Outer). record from { types = table_view within.spellings.now now.types }) outer_within
-        ∙ ap (λ (seen : List ℕ). record begins { types = table_view seen now.types })
-        (sym (ap (λ (s : CodeScopes). s.spellings.now) kept_on)))
+      outer_now : outer_view now ≡ record begins { types = (outer_view now).types }
+      outer_now =
+          ap outer_view kept_on
+          ∙ (ap (λ (from : Outer). record from { types = table_view within.spellings.now now.types }) outer_within
+          ∙ ap (λ (seen : List ℕ). record begins { types = table_view seen now.types })
+          (sym (ap (λ (s : CodeScopes). s.spellings.now) kept_on)))
 
-    pub labels_now : (known : Known) → known ≡ known_labels (declared_labels labels) [] []
-        → known ≡ known_labels leaves.inner.labels [] []
-    labels_now known is =
-        is
-        ∙ ap (λ (all : List ℕ). known_labels all [] [])
-        (sym (labels_are outer number sort labels variables body line now leaves outer_now))
+      pub labels_now : (known : Known) → known ≡ known_labels (declared_labels labels) [] []
+          → known ≡ known_labels leaves.inner.labels [] []
+      labels_now known is =
+          is
+          ∙ ap (λ (all : List ℕ). known_labels all [] [])
+          (sym (labels_are outer number sort labels variables body line now leaves outer_now))
 
-    pub program_now : (known : Known) → numbers_of known ≡ old.labels → numbers_of known ≡ now.labels
-    program_now known is =
-        is
-        ∙ sym (ap (λ (s : CodeScopes). s.labels) kept_on ∙ ap (λ (s : CodeScopes). s.labels) kept)
+      pub program_now : (known : Known) → numbers_of known ≡ old.labels → numbers_of known ≡ now.labels
+      program_now known is =
+          is
+          ∙ sym (ap (λ (s : CodeScopes). s.labels) kept_on ∙ ap (λ (s : CodeScopes). s.labels) kept)
 
-    -- what is answered of the statements
-    abbrev pub ListBody : Compound
-    ListBody = record {
-      begin = (out-Compound block).begin;
-      list = statements_in now.spellings.now (out-Compound block).list;
-      end = (out-Compound block).end;
-    }
+      -- what is answered of the statements
+      abbrev pub ListBody : Compound
+      ListBody = record {
+        begin = (out-Compound block).begin;
+        list = statements_in now.spellings.now (out-Compound block).list;
+        end = (out-Compound block).end;
+      }
 
-    abbrev pub IsBodyWithin : Result (List code_labelled.Labelled) Stop → Type 0
-    IsBodyWithin result =
-        IsBody (scopes_view now) sort leaves.inner.labels ListBody line (statements_view now.spellings.now) result
+      abbrev pub IsBodyWithin : Result (List code_labelled.Labelled) Stop → Type 0
+      IsBodyWithin result =
+          IsBody (scopes_view now) sort leaves.inner.labels ListBody line (statements_view now.spellings.now) result
 
-    closes : (result : Result (List code_labelled.Labelled) Stop) → IsBodyWithin result
-        → IsBody (there outer number sort labels variables body line) sort (declared_labels labels) body line
-        (statements_view now.spellings.now) result
-    closes result h =
-        body_there outer number sort labels variables body line now leaves outer_now
-        (statements_view now.spellings.now) result
-        (subst (λ (one : Compound). IsBody (scopes_view now) sort leaves.inner.labels one line
-        (statements_view now.spellings.now) result)
-        (sym (body_seen now.spellings.now block) ∙ ap (λ (seen : List ℕ). compound_in seen block) now_spellings) h)
+      closes : (result : Result (List code_labelled.Labelled) Stop) → IsBodyWithin result
+          → IsBody (there outer number sort labels variables body line) sort (declared_labels labels) body line
+          (statements_view now.spellings.now) result
+      closes result h =
+          body_there outer number sort labels variables body line now leaves outer_now
+          (statements_view now.spellings.now) result
+          (subst (λ (one : Compound). IsBody (scopes_view now) sort leaves.inner.labels one line
+          (statements_view now.spellings.now) result)
+          (sym (body_seen now.spellings.now block) ∙ ap (λ (seen : List ℕ). compound_in seen block) now_spellings) h)
 
-    pub statements_stop : (why : Stop) → IsBodyWithin (Err why) → Block now (Err why)
-    statements_stop why h =
-        body_fails outer number sort labels variables body line still passed why (closes (Err why) h)
+      pub statements_stop : (why : Stop) → IsBodyWithin (Err why) → Block now (Err why)
+      statements_stop why h =
+          body_fails outer number sort labels variables body line still passed why (closes (Err why) h)
 
-    pub block_done : (statements : List code_labelled.Labelled) → IsBodyWithin (Ok statements)
-        → (new : CodeScopes) (found : CodeBody) → new ≡ record now { inner = None }
-        → found ≡ record {
-          routine = leaves.inner.number;
-          variables = leaves.inner.variables;
-          labels = leaves.inner.labels;
-          statements = statements;
-        }
-        → Block new (Ok found)
-    block_done statements h new found new_is found_is =
-        let names_are = ap (λ (s : CodeScopes). s.names) kept_on ∙ ap (λ (s : CodeScopes). s.names) kept in
-        let behind : CodeScopes = record now { inner = None } in
-        let all : CodeBody = made outer number sort labels variables body line now leaves outer_now statements in
-        subst (λ (one : CodeBody). Block new (Ok one)) (sym found_is)
-        (subst (λ (s : CodeScopes). Block s (Ok all)) (sym new_is)
-        (subst (λ (seen : List ℕ). Leads outer number sort labels variables body line (body_view seen) behind all)
-        now_spellings
-        (block_leads outer number sort labels variables body line now leaves outer_now
-        (clear_outside old now names_are ready.alone ready.clear) still passed statements (closes (Ok statements) h))))
+      pub block_done : (statements : List code_labelled.Labelled) → IsBodyWithin (Ok statements)
+          → (new : CodeScopes) (found : CodeBody) → new ≡ record now { inner = None }
+          → found ≡ record {
+            routine = leaves.inner.number;
+            variables = leaves.inner.variables;
+            labels = leaves.inner.labels;
+            statements = statements;
+          }
+          → Block new (Ok found)
+      block_done statements h new found new_is found_is =
+          let names_are = ap (λ (s : CodeScopes). s.names) kept_on ∙ ap (λ (s : CodeScopes). s.names) kept in
+          let behind : CodeScopes = record now { inner = None } in
+          let all : CodeBody = made outer number sort labels variables body line now leaves outer_now statements in
+          subst (λ (one : CodeBody). Block new (Ok one)) (sym found_is)
+          (subst (λ (s : CodeScopes). Block s (Ok all)) (sym new_is)
+          (subst (λ (seen : List ℕ). Leads outer number sort labels variables body line (body_view seen) behind all)
+          now_spellings
+          (block_leads outer number sort labels variables body line now leaves outer_now
+          (clear_outside old now names_are ready.alone ready.clear) still passed statements (closes (Ok statements) h))))

@@ -430,8 +430,11 @@ slots_lawful program before (found ∷ variables) after is = (
     mode = refl;
     type = refl;
   },
-  subst (λ n. Each (IsNamed program) (spec.named_slots typed.global n variables)) (omega (arith, length-append before
-  (found ∷ [])))
+  subst (λ n. Each (IsNamed program) (spec.named_slots typed.global n variables)) (omega (
+    arith,
+    length-append before
+        (found ∷ []),
+  ))
       (slots_lawful program (before ++ found ∷ []) variables after
       (is ∙ sym (append_assoc before (found ∷ []) (variables ++ after)))),
 )

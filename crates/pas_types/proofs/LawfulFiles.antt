@@ -51,7 +51,7 @@ file_name : (outer : Outer) (name : List ℕ) (entity : Option Entity) → entit
 file_name outer name None at is = some_fault (wrong UNKNOWN_NAME) [] is
 file_name outer name (Some entity) at is =
     let found = file_variable outer.types entity (holds (spec.is_file_variable outer.types entity) (wrong FILE_RULE)
-        is) in
+    is) in
     record { slot = found.0; there = at ∙ ap Some found.1; file = found.2 }
 
 not_true : (b : Bool) → not b ≡ true → b ≡ false

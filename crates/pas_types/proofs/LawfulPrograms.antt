@@ -403,6 +403,6 @@ unfolding checked_of
 means_lawful program held meaning means =
     let outer : Outer = (routines program held).outer in
     let found = some_of (λ bodies statements. made_of program held means.0 bodies statements) (routines program
-        held).bodies
+    held).bodies
     (list program held).value meaning means.1 in
     subst IsLawful found.4 (made_lawful program held means.0 found.0 found.1 found.2 found.3)

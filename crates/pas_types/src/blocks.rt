@@ -139,7 +139,11 @@ fn body_of(
     };
     let statements = before(end, statements_of(scopes, &mut flow, list))?;
     demand(flow.block.all_stand(), WRONG_LABEL, end)?;
-    demand(is_given(sort, statements.as_slice()), RESULT_NEVER_ASSIGNED, end)?;
+    demand(
+        is_given(sort, statements.as_slice()),
+        RESULT_NEVER_ASSIGNED,
+        end,
+    )?;
     Ok(statements)
 }
 

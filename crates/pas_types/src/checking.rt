@@ -113,7 +113,10 @@ fn add_parameter(scopes: &mut Scopes<'_>, ident: Ident) -> Result<(), OutOfMemor
 }
 
 // The labels that a part of the declarations declares, as they stand there.
-pub(crate) fn label_numbers(alloc: Global, part: Option<&LabelPart>) -> Result<Items<u32>, AllocError>
+pub(crate) fn label_numbers(
+    alloc: Global,
+    part: Option<&LabelPart>,
+) -> Result<Items<u32>, AllocError>
     ensures { (spellings : List ℕ) → IfOk result (λ numbers. numbers
         ≡ declared_labels (if_there (labels_in spellings) (option_copied part.entry))) }
 {

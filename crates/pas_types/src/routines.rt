@@ -169,11 +169,7 @@ fn routine_of(
 }
 
 // The number of the routine with this heading, of which the body is still to come: this one, or one of its own.
-fn headed(
-    scopes: &mut Scopes<'_>,
-    head: HeadingParts<'_>,
-    found: Option<u32>,
-) -> Result<u32, Stop>
+fn headed(scopes: &mut Scopes<'_>, head: HeadingParts<'_>, found: Option<u32>) -> Result<u32, Stop>
     ensures heads { (word : Word) → IsReady scopes.old
         → IfSome found (λ number. IsSome (awaited_at scopes.old.routines.items number)) → HeadsBy
         (parts_words word (parts_in scopes.old.spellings.now head.entry) head.entry.end)
