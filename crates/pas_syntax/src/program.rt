@@ -2,7 +2,7 @@
 ghost use Rattle.std.specs.Prelude.{◌≡◌, IfOk, Ok, List};
 ghost use Rattle.wb_base.specs.WorkResult.{IfFault};
 ghost use Rattle.pas_tokens.specs.Tokens.{Token, tokens_of, fault_in};
-ghost use Rattle.pas_syntax.specs.Parse.{Means, IsFaultOf, left_out, misplaced_by};
+ghost use Rattle.pas_syntax.specs.Parse.{Means, IsOfText, IsFaultOf, left_out, misplaced_by};
 ghost use Rattle.pas_syntax.specs.ProgramViews.{program_in};
 ghost use Rattle.pas_syntax.specs.inner.Places.{spelled_of};
 
@@ -52,7 +52,8 @@ impl Program {
 
     /// The tree.
     pub fn tree(&self) -> &ProgramTree
-        ensures { result.now ≡ self.now.tree }
+        ensures tree { result.now ≡ self.now.tree }
+        ensures of_text { IsOfText (program_in self.now.spellings self.now.tree) }
     {
         &self.tree
     }

@@ -22,6 +22,7 @@ mod name_sets;
 mod names;
 mod new_names;
 mod noting;
+mod program;
 mod programs;
 mod results;
 mod routines;
@@ -34,3 +35,4 @@ mod type_forms;
 mod variables;
 
 pub use limits::{CELL_LIMIT, GREATEST_LABEL, ROUTINE_CELL_LIMIT, ROUTINE_LIMIT};
+pub use program::{Typed, check};

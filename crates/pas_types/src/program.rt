@@ -3,7 +3,9 @@ ghost use Rattle.std.specs.Prelude.{◌≡◌, length, IfOk};
 ghost use Rattle.wb_base.specs.WorkResult.{IfFault};
 ghost use Rattle.pas_syntax.specs.ProgramViews.{program_in};
 ghost use Rattle.pas_typed.specs.TypedViews.{program_view};
+ghost use Rattle.pas_typed.specs.Lawful.{IsLawful};
 ghost use Rattle.pas_types.specs.Check.{Means, IsFaultOf};
+ghost use Rattle.pas_types.specs.Checked.{IsChecked};
 
 use crate::programs::typed;
 use crate::stop::count_of;
@@ -41,6 +43,7 @@ impl Typed {
     pub fn program(&self) -> &TypedProgram
         ensures program { result.now ≡ self.now }
         ensures checked { IsChecked self.now }
+        ensures lawful { IsLawful (program_view self.now) }
     {
         &self.program
     }
