@@ -14,7 +14,7 @@ loop-known-preserved c =
     let steps : into_iter_items at.known-iterator ≡ known ∷ into_iter_items c.next.new.self = c.in-Some.ensures.steps.0
     in (
       append_assoc at.yielded (known ∷ []) _ ∙ rw (← steps) at.invariant.0,
-      c.in_ok-push.ensures ∙ (ap (λ found. found ++ known.heading ∷ []) at.invariant.1
+      c.in_ok-push.ensures.ok ∙ (ap (λ found. found ++ known.heading ∷ []) at.invariant.1
       ∙ sym (map-append (λ one. one.heading) at.yielded (known ∷ []))),
       let was = at.invariant.2 in
           let gone = c.in-Some.ensures.steps.1 in
