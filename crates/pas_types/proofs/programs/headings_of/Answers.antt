@@ -15,7 +15,7 @@ loop-known-preserved c =
     in (
       append_assoc at.yielded (known ∷ []) _ ∙ rw (← steps) at.invariant.0,
       c.in_ok-push.ensures.ok ∙ (ap (λ found. found ++ known.heading ∷ []) at.invariant.1
-      ∙ sym (map-append (λ one. one.heading) at.yielded (known ∷ []))),
+          ∙ sym (map-append (λ one. one.heading) at.yielded (known ∷ []))),
       let was = at.invariant.2 in
           let gone = c.in-Some.ensures.steps.1 in
           let short = ap length steps in

@@ -1,4 +1,4 @@
-use Rattle.std.proofs.Common.{◌≡◌, sym, ap, subst, [], Option}
+use Rattle.std.proofs.Common.{sym, ap, subst, [], Option}
 use Rattle.wb_base.specs.declared.faults.Fault.{Fault}
 use Rattle.pas_syntax.specs.Tree.{Routine}
 use Rattle.pas_syntax.specs.ProgramViews.{routine_in}

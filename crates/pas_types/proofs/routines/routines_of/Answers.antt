@@ -1,4 +1,4 @@
-use Rattle.std.proofs.Common.{◌≡◌, sym, ap, subst, ◌∙◌, ℕ, ◌+◌, List, [], ◌∷◌, ◌++◌, map, take, None}
+use Rattle.std.proofs.Common.{◌≡◌, sym, ap, subst, ◌∙◌, ℕ, ◌+◌, List, [], ◌∷◌, ◌++◌, map, take}
 use Rattle.std.specs.Prelude.{option_to_list}
 use Rattle.std.proofs.lemmas.List.{map-append, take_more, take_all}
 use Rattle.pas_syntax.specs.Tree.{Routine}
@@ -7,7 +7,6 @@ use Rattle.pas_syntax.specs.ProgramViews.{routine_in}
 use Rattle.pas_syntax.specs.declared.tree.Routine.{Routine as CodeRoutine}
 use Rattle.pas_types.specs.declared.scopes.Scopes.{Scopes as CodeScopes}
 use Rattle.pas_types.specs.Routines.{routine_of}
-use Rattle.pas_types.specs.inner.LabelViews.{numbers_of}
 use Rattle.pas_types.specs.inner.RoutineStands.{Steps}
 use Rattle.pas_types.proofs.ThroughLemmas.{Leads, Stepped, leads_more, leads_all, goes_through}
 use Rattle.pas_types.proofs.routines.routines_of.Goals as goal

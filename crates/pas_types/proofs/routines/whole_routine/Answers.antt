@@ -1,4 +1,4 @@
-use Rattle.std.proofs.Common.{◌≡◌, sym, ap, subst, ◌∙◌, ℕ, List, [], take, Option, None, Some}
+use Rattle.std.proofs.Common.{◌≡◌, sym, ap, subst, ◌∙◌, ℕ, List, [], take, Option, Some}
 use Rattle.std.specs.Prelude.{option_to_list}
 use Rattle.wb_base.specs.declared.faults.Fault.{Fault}
 use Rattle.pas_syntax.specs.Tree.{Routine}
