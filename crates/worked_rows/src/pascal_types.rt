@@ -106,6 +106,15 @@ fn programs_are_lawful_or_not(rt: HostRuntime) -> Result<(), Fail> {
         Row("program t(output);procedure a;begin write(output,'a') end;procedure b;begin b end;begin a end.", Lawful),
         Row("program gen(output);var xx,yy:integer;procedure proc1;begin xx:=xx+7;if odd(xx) then yy:=yy+9 \
             else yy:=yy+256;end;begin xx:=1;yy:=2;proc1;writeln(output,xx+yy:1);end.", Lawful),
+        // the programs of docs/PASCAL.md
+        Row("program t;begin\nx:=1 end.", Faulty(54, 2)),
+        Row("program t;type p=array[1..2] of char;var a:p;b:array[1..2] of char;begin a:=\nb end.", Faulty(56, 2)),
+        Row("program t;function f:integer;begin\nend;begin end.", Faulty(62, 2)),
+        Row("program t;label 5;begin\nend.", Faulty(58, 2)),
+        Row("program t;label 5;begin goto\n5;begin 5: end end.", Faulty(59, 2)),
+        Row("program t;label 9;procedure p;begin goto 9 end;begin p;9: end.", Lawful),
+        Row("program t;var f:\ntext;begin end.", Faulty(61, 2)),
+        Row("program t(f);var f:text;begin reset(f);read(f,\n1) end.", LeftOut(9, 2)),
         // the earlier token, and at one token the lower number
         Row("program t;var a:\nb\n;c:d;begin end.", Faulty(54, 2)),
         Row("program t;var a:array[2..\n1\n] of char;begin x:=1 end.", Faulty(57, 2)),
