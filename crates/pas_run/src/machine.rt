@@ -328,7 +328,12 @@ impl<P: Port> Machine<P> {
     }
 
     // Writes a string, spelled with each quote twice, on a text in a field of this width.
-    pub(crate) fn write_quoted(&mut self, file: usize, spelled: &[u8], width: i32) -> Result<(), Stop>
+    pub(crate) fn write_quoted(
+        &mut self,
+        file: usize,
+        spelled: &[u8],
+        width: i32,
+    ) -> Result<(), Stop>
         requires { file < length self.old.files }
         ensures does { (most : ℕ) (kinds : Kinds) → Does most kinds kinds Any
             (steps.append file (files.written (λ field. files.string_in_field field (undoubled spelled.now)) width))

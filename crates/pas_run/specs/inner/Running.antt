@@ -1,6 +1,6 @@
 -- What functions of a machine do of statements: what the meaning does, from each scene in which they are lawful. This
 -- project's own.
-use Rattle.std.specs.Prelude.{◌≡◌, ℕ, ℤ, List, Option, Some, None, Result, Ok, Err, ⊤}
+use Rattle.std.specs.Prelude.{◌≡◌, ℕ, ℤ, List, Option, Some, None, Result, Ok, Err}
 use Rattle.pas_syntax.specs.declared.operators.Way.{Way}
 use Rattle.pas_typed.specs.Types.{PasType, range_of}
 use Rattle.pas_typed.specs.Typed as typed

@@ -8,7 +8,8 @@ pub overflow_add-count : goal.overflow_add-count
 overflow_add-count c =
     let some : 0 < length c.loop-rest.rest.now = search rules in
     let byte : 0 < length (undoubled c.loop-rest.rest.now) = has_a_byte c.loop-rest.rest.now some in
-    let most : length (undoubled c.args.spelled.now) ≤ length c.args.spelled.now = length_undoubled c.args.spelled.now in
+    let most : length (undoubled c.args.spelled.now) ≤ length c.args.spelled.now =
+    length_undoubled c.args.spelled.now in
     search (rules, byte, most)
 
 pub loop-rest-smaller : goal.loop-rest-smaller

@@ -1,4 +1,4 @@
-use Rattle.std.proofs.Common.{ap, ◌∙◌, sym, ◌≡◌, ℕ, ◌+◌, arith}
+use Rattle.std.proofs.Common.{ap, ◌∙◌, sym, ◌+◌, arith}
 use Rattle.pas_typed.specs.Texts.{undoubled}
 use Rattle.pas_run.specs.declared.files.FileState.{FileState}
 use Rattle.pas_run.proofs.WritingLemmas.{one_more, part_of}

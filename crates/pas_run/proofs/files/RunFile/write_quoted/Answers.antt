@@ -1,4 +1,5 @@
-use Rattle.std.proofs.Common.{◌≡◌, ℕ, List, ◌-◌, ◌++◌, replicate, take, subst, ap, ◌∙◌, Ok, Err, nat_abs, to_z, of_z, w32, min}
+use Rattle.std.proofs.Common.{◌≡◌, ℕ, List, ◌-◌, ◌++◌, replicate, take, subst, ap, ◌∙◌, Ok, Err, nat_abs, to_z, of_z}
+use Rattle.std.proofs.Common.{w32, min}
 use Rattle.std.proofs.Math.Facts.{to_z-of_z}
 use Rattle.pas_meaning.specs.Answers.{fine}
 use Rattle.pas_meaning.specs.Files as files
@@ -17,12 +18,13 @@ returns-in-Ok-clause-step g c =
     ≡ fine (files.string_in_field (nat_abs w) text)) e
     (c.in_ok-demand_text.ensures.demands.each bound file h (λ field. files.string_in_field field text)))
     (subst (λ n. Pieces {T = Failed} (files.string_in_field n text) c.args.self.now.state
-    (g.P.Port.told c.args.self.now.port) c.put_quoted_field.new.self.state (g.P.Port.told c.put_quoted_field.new.self.port)
-    (Ok tt)) (c.unsigned_abs-field.ensures.value ∙ ap nat_abs e)
+    (g.P.Port.told c.args.self.now.port) c.put_quoted_field.new.self.state
+    (g.P.Port.told c.put_quoted_field.new.self.port) (Ok tt)) (c.unsigned_abs-field.ensures.value ∙ ap nat_abs e)
     (subst (λ x. Pieces {T = Failed} x c.args.self.now.state (g.P.Port.told c.args.self.now.port)
     c.put_quoted_field.new.self.state (g.P.Port.told c.put_quoted_field.new.self.port) (Ok tt))
     (ap (λ n. replicate (c.unsigned_abs-field.result - n) 32 ++ take n text) (c.min-count.ensures
-    ∙ ap (min c.unsigned_abs-field.result) c.text_length.ensures) ∙ field_of c.unsigned_abs-field.result text) c.in-Ok.ensures.pieces))
+    ∙ ap (min c.unsigned_abs-field.result) c.text_length.ensures) ∙ field_of c.unsigned_abs-field.result text)
+    c.in-Ok.ensures.pieces))
 
 pub returns-in-Err-clause-step : goal.returns-in-Err-clause-step
 returns-in-Err-clause-step g c =
@@ -33,9 +35,10 @@ returns-in-Err-clause-step g c =
     ≡ fine (files.string_in_field (nat_abs w) text)) e
     (c.in_ok-demand_text.ensures.demands.each bound file h (λ field. files.string_in_field field text)))
     (subst (λ n. Pieces {T = Failed} (files.string_in_field n text) c.args.self.now.state
-    (g.P.Port.told c.args.self.now.port) c.put_quoted_field.new.self.state (g.P.Port.told c.put_quoted_field.new.self.port)
-    (Err (record {}))) (c.unsigned_abs-field.ensures.value ∙ ap nat_abs e)
+    (g.P.Port.told c.args.self.now.port) c.put_quoted_field.new.self.state
+    (g.P.Port.told c.put_quoted_field.new.self.port) (Err (record {}))) (c.unsigned_abs-field.ensures.value ∙ ap nat_abs e)
     (subst (λ x. Pieces {T = Failed} x c.args.self.now.state (g.P.Port.told c.args.self.now.port)
     c.put_quoted_field.new.self.state (g.P.Port.told c.put_quoted_field.new.self.port) (Err (record {})))
     (ap (λ n. replicate (c.unsigned_abs-field.result - n) 32 ++ take n text) (c.min-count.ensures
-    ∙ ap (min c.unsigned_abs-field.result) c.text_length.ensures) ∙ field_of c.unsigned_abs-field.result text) c.in-Err.ensures.pieces))
+    ∙ ap (min c.unsigned_abs-field.result) c.text_length.ensures) ∙ field_of c.unsigned_abs-field.result text)
+    c.in-Err.ensures.pieces))

@@ -63,7 +63,6 @@ use Rattle.pas_run.proofs.CallLemmas.{does_after_step, goes_behind_call_step, go
 use Rattle.pas_run.proofs.CallLemmas.{body_not_opened, body_stopped, body_done, procedure_no_arguments}
 use Rattle.pas_run.proofs.CallLemmas.{procedure_stopped, procedure_done}
 use Rattle.std.proofs.Math.Facts.{to_z-of_z}
-use Rattle.pas_syntax.specs.declared.operators.Way.{Way}
 use Rattle.pas_typed.specs.declared.typed.Counted.{Counted as CodeCounted}
 use Rattle.pas_typed.proofs.StatementViews.{statement_view-Empty, statement_view-Assigns, statement_view-SetsResult}
 use Rattle.pas_typed.proofs.StatementViews.{statement_view-Calls, statement_view-Compound, statement_view-If}
@@ -3443,7 +3442,8 @@ write_text_item-returns-in_err-file-clause-does g t c variables result kinds at 
     (λ width. field_of program most slot (λ field. files.string_in_field field bytes) width) c.args.self.now
     c.width_or.new.self c.width_or.new.self c.in_ok-width.width (Err c.in_err-file.field-0.0)
     (goes_width_of program most (length bytes) given) (c.in_ok-width.ensures.does (length bytes)
-    (ap (λ (spelled : List ℕ). pos (length (undoubled spelled))) (sym c.spelled-bytes.ensures) ∙ c.in_ok-own.ensures.width ∙ sym own)
+    (ap (λ (spelled : List ℕ). pos (length (undoubled spelled))) (sym c.spelled-bytes.ensures)
+    ∙ c.in_ok-own.ensures.width ∙ sym own)
     variables result kinds at is.1 most)
     (on_no_file most kinds slot (λ number. append number (files.written (λ field. files.string_in_field field bytes)
     c.in_ok-width.width))
@@ -3465,7 +3465,8 @@ write_text_item-returns-clause-does g t c variables result kinds at is most =
     (λ width. field_of program most slot (λ field. files.string_in_field field bytes) width) c.args.self.now
     c.width_or.new.self c.write_quoted.new.self c.in_ok-width.width c.write_quoted.result
     (goes_width_of program most (length bytes) given) (c.in_ok-width.ensures.does (length bytes)
-    (ap (λ (spelled : List ℕ). pos (length (undoubled spelled))) (sym c.spelled-bytes.ensures) ∙ c.in_ok-own.ensures.width ∙ sym own)
+    (ap (λ (spelled : List ℕ). pos (length (undoubled spelled))) (sym c.spelled-bytes.ensures)
+    ∙ c.in_ok-own.ensures.width ∙ sym own)
     variables result kinds at is.1 most)
     (on_its_file most kinds slot (λ number. append number (files.written (λ field. files.string_in_field field bytes)
     c.in_ok-width.width))
