@@ -195,7 +195,8 @@ module _ (file : File) (text : file.is_text ≡ true) (reading : is_reading file
       ∙ sym (ap (λ rest. file.place + suc (unwrap_or (position ends_line rest) 0)) rest_is
       ∙ ap (λ count. file.place + suc count) (at_later (drop (suc file.place) (view file)) byte is found))
 
-first_byte : (bytes : List ℕ) (place : ℕ) → IsFound (drop place bytes) → (byte : ℕ) × (slice_get bytes place ≡ Some byte)
+first_byte : (bytes : List ℕ) (place : ℕ) → IsFound (drop place bytes) → (byte : ℕ)
+    × (slice_get bytes place ≡ Some byte)
 first_byte [] zero found = absurd (omega (arith, found))
 first_byte [] (suc place) found = absurd (omega (arith, found))
 first_byte (byte ∷ bytes) zero found = (byte, refl)

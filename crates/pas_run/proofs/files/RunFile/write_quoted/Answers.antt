@@ -36,7 +36,8 @@ returns-in-Err-clause-step g c =
     (c.in_ok-demand_text.ensures.demands.each bound file h (λ field. files.string_in_field field text)))
     (subst (λ n. Pieces {T = Failed} (files.string_in_field n text) c.args.self.now.state
     (g.P.Port.told c.args.self.now.port) c.put_quoted_field.new.self.state
-    (g.P.Port.told c.put_quoted_field.new.self.port) (Err (record {}))) (c.unsigned_abs-field.ensures.value ∙ ap nat_abs e)
+    (g.P.Port.told c.put_quoted_field.new.self.port) (Err (record {})))
+    (c.unsigned_abs-field.ensures.value ∙ ap nat_abs e)
     (subst (λ x. Pieces {T = Failed} x c.args.self.now.state (g.P.Port.told c.args.self.now.port)
     c.put_quoted_field.new.self.state (g.P.Port.told c.put_quoted_field.new.self.port) (Err (record {})))
     (ap (λ n. replicate (c.unsigned_abs-field.result - n) 32 ++ take n text) (c.min-count.ensures

@@ -13,8 +13,8 @@ eoln-requires g c = same_many c.args.file c.args.self.now.files c.loop.self.file
 
 pub get-requires : goal.get-requires
 get-requires g c =
-    same_many c.args.file c.args.self.now.files c.eoln.new.self.files (c.in_ok-at_end.ensures.cause ∙ c.loop.invariant.0)
-    c.requires
+    same_many c.args.file c.args.self.now.files c.eoln.new.self.files
+    (c.in_ok-at_end.ensures.cause ∙ c.loop.invariant.0) c.requires
 
 pub loop-init : goal.loop-init
 loop-init g c = (refl, λ kinds. leads_same {T = Unit {0}} kinds Any _ c.args.self.now)
