@@ -1,5 +1,6 @@
 pub mod ReadingLemmas
 pub mod WritingLemmas
+pub mod QuotedLemmas
 pub mod FlatLemmas
 pub mod DoesLemmas
 pub mod MachineLemmas

@@ -1,17 +1,16 @@
 -- The rest of a line of a text is passed: bytes are got until the end of the line was one of them.
-use Rattle.std.proofs.Common.{◌≡◌, ℕ, zero, suc, ◌+◌, ◌<◌, List, [], ◌∷◌, ◌++◌, length, drop, slice_get, slice_set}
-use Rattle.std.proofs.Common.{slice_index_or, arith, refl, sym, ap, ◌∙◌, subst, Bool, true, false, Option, Some, None}
+use Rattle.std.proofs.Common.{◌≡◌, ℕ, zero, suc, ◌+◌, ◌<◌, List, [], ◌∷◌, ◌++◌, length, drop, slice_get}
+use Rattle.std.proofs.Common.{arith, refl, sym, ap, ◌∙◌, subst, Bool, true, false, Option, Some, None}
 use Rattle.std.proofs.Common.{Result, Ok, Err, ◌==◌, eqb-true, eq-eqb, lt-ltb, cond}
 use Rattle.std.proofs.lemmas.List.{set-set, get_or-set_same, length-map}
 use Rattle.std.specs.Prelude.{if◌then◌else◌, position, unwrap_or, ⊤, not}
 use Rattle.std.specs.List.{last_or, position_or_len}
-use Rattle.wb_ports.specs.PortState.{PortState}
 use Rattle.pas_meaning.specs.declared.errors.TheConstants.{WRONG_MODE, AT_END_OF_FILE}
 use Rattle.pas_meaning.specs.Answers.{Answer, fine, wrong, then_answer, or_wrong}
 use Rattle.pas_meaning.specs.Files as files
 use Rattle.pas_meaning.specs.Files.{File, with_line_end, view, line_end, is_reading, next_byte, behind_line}
 use Rattle.pas_meaning.specs.FileSteps.{no_file, file_at, with_file, left, change_file}
-use Rattle.pas_meaning.specs.Outcome.{Run, World, Outcome, gives, errs, Doing, pure, and_then, ◌>>=◌, ◌>>◌, answered, led}
+use Rattle.pas_meaning.specs.Outcome.{Run, Outcome, gives, Doing, pure, and_then, ◌>>=◌, ◌>>◌, answered, led}
 use Rattle.pas_meaning.specs.Store.{Store}
 use Rattle.pas_meaning.specs.Laws.{Goes}
 use Rattle.pas_meaning.specs.Standing.{Kinds}
@@ -196,7 +195,8 @@ module _ (file : File) (text : file.is_text ≡ true) (reading : is_reading file
       ∙ sym (ap (λ rest. file.place + suc (unwrap_or (position ends_line rest) 0)) rest_is
       ∙ ap (λ count. file.place + suc count) (at_later (drop (suc file.place) (view file)) byte is found))
 
-first_byte : (bytes : List ℕ) (place : ℕ) → IsFound (drop place bytes) → (byte : ℕ) × (slice_get bytes place ≡ Some byte)
+first_byte : (bytes : List ℕ) (place : ℕ) → IsFound (drop place bytes) → (byte : ℕ)
+    × (slice_get bytes place ≡ Some byte)
 first_byte [] zero found = absurd (omega (arith, found))
 first_byte [] (suc place) found = absurd (omega (arith, found))
 first_byte (byte ∷ bytes) zero found = (byte, refl)

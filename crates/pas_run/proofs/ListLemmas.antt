@@ -1,11 +1,10 @@
 -- The statements of a list in order, and what catches the jumps to its labels.
-use Rattle.std.proofs.Common.{◌≡◌, ℕ, suc, ◌+◌, ◌<◌, ◌≤◌, ℤ, List, [], ◌∷◌, length, map, drop, get_or, drop-cons}
+use Rattle.std.proofs.Common.{◌≡◌, ℕ, suc, ◌+◌, ◌<◌, ◌≤◌, ℤ, List, ◌∷◌, length, drop, get_or, drop-cons}
 use Rattle.std.proofs.Common.{refl, sym, ap, ap₂, ◌∙◌, subst, arith, Option, Some, None, Bool, Result, Ok, Err}
 use Rattle.std.proofs.Common.{true, false, ◌⊎◌, inl, inr}
 use Rattle.std.specs.Prelude.{if◌then◌else◌, ◌||◌}
 use Rattle.std.specs.List.{list_any}
 use Rattle.std.proofs.lemmas.List.{drop_all}
-use Rattle.pas_typed.specs.declared.typed.Statement as code_statement
 use Rattle.pas_typed.specs.declared.typed.Labelled as code_labelled
 use Rattle.pas_typed.specs.declared.typed.Arm as code_arm
 use Rattle.pas_typed.specs.declared.typed.Statement.TheViews.{out-Labelled, out-Arm}
@@ -15,7 +14,7 @@ use Rattle.pas_typed.specs.Typed as typed
 use Rattle.pas_typed.specs.Typed.{Variable, Statement, Statements, Arms, TypedProgram}
 use Rattle.pas_typed.specs.TypedViews.{statement_step, arm_step, labelled_step, statement_view, arm_view}
 use Rattle.pas_typed.specs.TypedViews.{labelled_view, statements_view, arms_view}
-use Rattle.pas_typed.specs.Lawful.{IsLawfulStatement, AreLawful, AreLawfulArms}
+use Rattle.pas_typed.specs.Lawful.{AreLawful, AreLawfulArms}
 use Rattle.pas_meaning.specs.declared.errors.TheConstants.{CALL_LIMIT}
 use Rattle.pas_meaning.specs.Outcome.{Doing, pure, ◌>>=◌, ◌>>◌, take_step}
 use Rattle.pas_meaning.specs.Store.{Store}
@@ -24,7 +23,6 @@ use Rattle.pas_meaning.specs.Run as meaning
 use Rattle.pas_meaning.specs.Run.{Flow, Entry, Doings, within}
 use Rattle.pas_meaning.specs.Laws.{Goes}
 use Rattle.pas_meaning.specs.Standing.{Kinds}
-use Rattle.pas_meaning.proofs.OnwardLemmas.{goes_step}
 use Rattle.pas_meaning.proofs.GoesLemmas.{goes_on, goes_behind_list}
 use Rattle.pas_run.specs.declared.ends.Flow.{Flow as CodeFlow}
 use Rattle.pas_run.specs.declared.ends.Flow.TheVariants as flow

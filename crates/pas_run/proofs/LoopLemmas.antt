@@ -1,5 +1,5 @@
 -- Loops: their turns, and what tells whether a turn is the last one.
-use Rattle.std.proofs.Common.{◌≡◌, ℕ, zero, ℤ, List, [], refl, sym, ap, ◌∙◌, subst, Option, Some, None, Bool, true}
+use Rattle.std.proofs.Common.{◌≡◌, ℕ, ℤ, List, [], refl, sym, ap, ◌∙◌, subst, Option, Some, None, Bool, true}
 use Rattle.std.proofs.Common.{false}
 use Rattle.std.proofs.Common.{Result, Ok, Err}
 use Rattle.std.specs.Prelude.{if◌then◌else◌}
@@ -30,7 +30,7 @@ use Rattle.pas_run.specs.declared.ends.Stop.{Stop}
 use Rattle.pas_run.specs.inner.MachineState.{MachineState, IsRun}
 use Rattle.pas_run.specs.inner.Doings.{Any, Same, IsNumber, Does, Answers, stored_at}
 use Rattle.pas_run.specs.inner.Scenes.{IsCell}
-use Rattle.pas_run.specs.inner.Running.{flow_view, IsFlow, statement_of, list_of, looped_of, entry_by, loop_view}
+use Rattle.pas_run.specs.inner.Running.{flow_view, IsFlow, statement_of, looped_of, entry_by, loop_view}
 use Rattle.pas_run.specs.inner.Running.{turning, turn_at, turn_of}
 use Rattle.pas_run.specs.inner.Running.{until_of, counted_of, next_stored_of, for_from_of, between_of, forgetting}
 use Rattle.pas_run.specs.inner.Running.{next_behind}

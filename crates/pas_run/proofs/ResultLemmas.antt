@@ -1,19 +1,17 @@
 -- The cell of the result of a function, behind its variables.
-use Rattle.std.proofs.Common.{◌≡◌, ℕ, zero, suc, ◌+◌, ◌-◌, ℤ, List, [], ◌∷◌, ◌++◌, length, map, slice_index_or, arith}
+use Rattle.std.proofs.Common.{◌≡◌, ℕ, ◌+◌, ◌-◌, ℤ, List, [], ◌∷◌, ◌++◌, length, map, slice_index_or, arith}
 use Rattle.std.proofs.Common.{refl, sym, ap, ap₂, ◌∙◌, subst, Option, Some, Ok}
 use Rattle.std.proofs.lemmas.List.{length-map}
-use Rattle.wb_ports.specs.PortState.{PortState}
 use Rattle.pas_typed.specs.Types.{PasType}
 use Rattle.pas_typed.specs.Typed.{Variable, TypedProgram}
 use Rattle.pas_typed.specs.Shapes.{one_cell, offset}
-use Rattle.pas_meaning.specs.Outcome.{Run, change}
+use Rattle.pas_meaning.specs.Outcome.{change}
 use Rattle.pas_meaning.specs.Store.{Datum, own, Reference, Store, top_of, number_in}
 use Rattle.pas_meaning.specs.Run.{with_result}
 use Rattle.pas_meaning.specs.Cells.{IsShaped}
 use Rattle.pas_meaning.specs.Standing.{Kind, plain, kind_of, Kinds, kind_at, Aims, Stands}
 use Rattle.pas_meaning.proofs.StandingLemmas.{stands_set}
 use Rattle.pas_run.specs.declared.cells.Address.{Address}
-use Rattle.pas_run.specs.declared.cells.Cell.{Cell}
 use Rattle.pas_run.specs.declared.cells.Cell.TheVariants.{Holds}
 use Rattle.pas_run.specs.declared.layouts.Layout.{Layout}
 use Rattle.pas_run.specs.declared.layouts.Layouts.{Layouts}

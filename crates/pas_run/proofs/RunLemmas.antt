@@ -87,12 +87,13 @@ module _ (parameters : List Variable) (kinds : Kinds) (before : MachineState) wh
     pub leads_next : ((most : ℕ) → Does {T = Unit {0}} most kinds kinds Any (begun_by i name) between now (Ok (tt {0})))
         → Leads (i + 1) now
     leads_next does = record {
-      each = λ end result rest most. leads.each end result (λ most. subst (λ (doing : Doing Store (Unit {0})). Does most kinds kinds Any doing between end
-          result) (sym (next_from parameters i found is))
+      each = λ end result rest most. leads.each end result (λ most. subst
+          (λ (doing : Doing Store (Unit {0})). Does most kinds kinds Any doing between end result) (sym (next_from parameters i found is))
           (does_next {T = Unit {0}} {U = Unit {0}} most kinds kinds kinds Any Any (begun_by i found.name)
           (λ done. begin_from parameters (i + 1)) between now end (tt {0}) result
           (goes_begun i found.name)
-          (subst (λ (name : List ℕ). Does {T = Unit {0}} most kinds kinds Any (begun_by i name) between now (Ok (tt {0})))
+          (subst
+          (λ (name : List ℕ). Does {T = Unit {0}} most kinds kinds Any (begun_by i name) between now (Ok (tt {0})))
           named (does most))
           (λ done any. rest most))) most;
     }
@@ -101,8 +102,8 @@ module _ (parameters : List Variable) (kinds : Kinds) (before : MachineState) wh
         → ((most : ℕ) → Does {T = Unit {0}} most kinds kinds Any (begun_by i name) between now (Err why))
         → (most : ℕ) → Does {T = Unit {0}} most kinds kinds Any (begin_files 0 parameters) before now (Err why)
     leads_stop why does most =
-        leads.each now (Err why) (λ most. subst (λ (doing : Doing Store (Unit {0})). Does {T = Unit {0}} most kinds kinds Any
-        doing between now (Err why)) (sym (next_from parameters i found is))
+        leads.each now (Err why) (λ most. subst
+        (λ (doing : Doing Store (Unit {0})). Does {T = Unit {0}} most kinds kinds Any doing between now (Err why)) (sym (next_from parameters i found is))
         (does_stop {T = Unit {0}} {U = Unit {0}} most kinds kinds kinds Any Any (begun_by i found.name)
         (λ done. begin_from parameters (i + 1)) between now why
         (λ done. goes_begin_files (i + 1) (drop (i + 1) parameters))
@@ -148,29 +149,29 @@ module _ (program : TypedProgram) (kinds : Kinds) (most : ℕ) (before : Machine
       does_stop {T = Unit {0}} {U = Unit {0}} most kinds kinds kinds Any Any begins (λ done. then_halted) before now why
       (λ done. goes_halted) does
 
-  module _ (between : MachineState) (begun : Does {T = Unit {0}} most kinds kinds Any begins before between (Ok (tt {0})))
-    where
-      pub run_stopped : (now : MachineState) (why : Stop)
-          → Does {T = CodeFlow} most kinds kinds IsFlow run_of between now (Err why)
-          → Does {T = Unit {0}} most kinds kinds Any whole before now (Err why)
-      run_stopped now why does =
-          does_next {T = Unit {0}} {U = Unit {0}} most kinds kinds kinds Any Any begins (λ done. then_halted) before
-          between now (tt {0}) (Err why) (goes_begin_files 0 (parameters_of program)) begun
-          (λ done any. does_stop {T = CodeFlow} {U = Unit {0}} most kinds kinds kinds IsFlow Any run_of
-          (λ flow. stop (halted 0)) between now why (λ flow. goes_stop (halted 0)) does)
+  module _ (between : MachineState)
+      (begun : Does {T = Unit {0}} most kinds kinds Any begins before between (Ok (tt {0}))) where
+    pub run_stopped : (now : MachineState) (why : Stop)
+        → Does {T = CodeFlow} most kinds kinds IsFlow run_of between now (Err why)
+        → Does {T = Unit {0}} most kinds kinds Any whole before now (Err why)
+    run_stopped now why does =
+        does_next {T = Unit {0}} {U = Unit {0}} most kinds kinds kinds Any Any begins (λ done. then_halted) before
+        between now (tt {0}) (Err why) (goes_begin_files 0 (parameters_of program)) begun
+        (λ done any. does_stop {T = CodeFlow} {U = Unit {0}} most kinds kinds kinds IsFlow Any run_of
+        (λ flow. stop (halted 0)) between now why (λ flow. goes_stop (halted 0)) does)
 
-      pub run_done : (now : MachineState) (flow : CodeFlow)
-          → Does {T = CodeFlow} most kinds kinds IsFlow run_of between now (Ok flow)
-          → Does {T = Unit {0}} most kinds kinds Any whole before now (Err (why_stop.Halted 0))
-      run_done now flow does =
-          does_next {T = Unit {0}} {U = Unit {0}} most kinds kinds kinds Any Any begins (λ done. then_halted) before
-          between now (tt {0}) (Err (why_stop.Halted 0)) (goes_begin_files 0 (parameters_of program)) begun
-          (λ done any. does_next {T = CodeFlow} {U = Unit {0}} most kinds kinds kinds IsFlow Any run_of
-          (λ flow. stop (halted 0)) between now now flow (Err (why_stop.Halted 0))
-          (goes_within (Some CALL_LIMIT) program (suc most) start (typed.compound program.statements)) does
-          (λ found is. record {
-            each = λ ports run stands within. (run.world, record { same = refl; stands = stands.world });
-          }))
+    pub run_done : (now : MachineState) (flow : CodeFlow)
+        → Does {T = CodeFlow} most kinds kinds IsFlow run_of between now (Ok flow)
+        → Does {T = Unit {0}} most kinds kinds Any whole before now (Err (why_stop.Halted 0))
+    run_done now flow does =
+        does_next {T = Unit {0}} {U = Unit {0}} most kinds kinds kinds Any Any begins (λ done. then_halted) before
+        between now (tt {0}) (Err (why_stop.Halted 0)) (goes_begin_files 0 (parameters_of program)) begun
+        (λ done any. does_next {T = CodeFlow} {U = Unit {0}} most kinds kinds kinds IsFlow Any run_of
+        (λ flow. stop (halted 0)) between now now flow (Err (why_stop.Halted 0))
+        (goes_within (Some CALL_LIMIT) program (suc most) start (typed.compound program.statements)) does
+        (λ found is. record {
+          each = λ ports run stands within. (run.world, record { same = refl; stands = stands.world });
+        }))
 
 -- the parameter with a number; and the files that are as many where all failures are the same
 pub parameter_there : (program : TypedProgram) (i : ℕ) → i < length program.files

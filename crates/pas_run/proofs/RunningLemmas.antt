@@ -1,8 +1,6 @@
 -- Statements one after another, as steps of a run.
-use Rattle.std.proofs.Common.{◌≡◌, ℕ, zero, suc, ◌+◌, ℤ, refl, sym, ap, ◌∙◌, subst, arith, Bool, Option, Some, None}
-use Rattle.std.proofs.Common.{Result, Ok, Err, true, false}
-use Rattle.std.specs.Prelude.{if◌then◌else◌}
-use Rattle.pas_typed.specs.Typed as typed
+use Rattle.std.proofs.Common.{◌≡◌, ℕ, zero, suc, ◌+◌, ℤ, refl, sym, ap, subst, arith, Option, Some}
+use Rattle.std.proofs.Common.{Result, Ok, Err}
 use Rattle.pas_typed.specs.Typed.{Statement, Statements, Arms, TypedProgram}
 use Rattle.pas_meaning.specs.declared.errors.TheConstants.{CALL_LIMIT}
 use Rattle.pas_meaning.specs.Outcome.{Run, Outcome, gives, ends, errs, Doing, pure, and_then, ◌>>=◌, ◌>>◌, take_step}
@@ -11,7 +9,7 @@ use Rattle.pas_meaning.specs.Run as meaning
 use Rattle.pas_meaning.specs.Run.{Flow, Entry, within}
 use Rattle.pas_meaning.specs.Laws.{Goes}
 use Rattle.pas_meaning.specs.Standing.{Kinds}
-use Rattle.pas_meaning.proofs.OnwardLemmas.{goes_pure, goes_step, goes_then}
+use Rattle.pas_meaning.proofs.OnwardLemmas.{goes_pure}
 use Rattle.pas_meaning.proofs.GoesLemmas.{goes_statement, goes_within, goes_list, goes_entered, goes_looped, goes_arm}
 use Rattle.pas_run.specs.declared.ends.Flow.{Flow as CodeFlow}
 use Rattle.pas_run.specs.declared.ends.Flow.TheVariants as flow
@@ -19,8 +17,8 @@ use Rattle.pas_run.specs.declared.ends.Stop.{Stop}
 use Rattle.pas_run.specs.inner.MachineState.{MachineState}
 use Rattle.pas_run.specs.inner.Doings.{Any, Same, Done, Does}
 use Rattle.pas_run.specs.inner.Running.{flow_view, IsFlow, statement_of, list_of, LeadsTo, next_behind}
-use Rattle.pas_run.specs.inner.Running.{entered_of, looped_of, entry_by}
-use Rattle.pas_run.proofs.DoesLemmas.{does_stop, does_next, does_pure, does_behind_step}
+use Rattle.pas_run.specs.inner.Running.{entered_of, looped_of}
+use Rattle.pas_run.proofs.DoesLemmas.{does_stop, does_next, does_behind_step}
 
 -- what is the same from each run
 pub does_as : {A T : Type 0} (most : ℕ) (kinds later : Kinds) (Is : T → A → Type 0) (doing other : Doing Store A)

@@ -1,23 +1,22 @@
 -- What statements do that have no statements in them, and those that choose one.
-use Rattle.std.proofs.Common.{◌≡◌, ℕ, suc, ◌+◌, ◌<◌, ◌-◌, ℤ, List, [], ◌∷◌, ◌++◌, length, map, refl, sym, ap, ap₂, ◌∙◌}
-use Rattle.std.proofs.Common.{subst, arith, Option, Some, None, Bool, Result, Ok, Err, false, slice_index_or, ◌⊎◌}
+use Rattle.std.proofs.Common.{◌≡◌, ℕ, ℤ, List, refl, sym}
+use Rattle.std.proofs.Common.{subst, Some, Bool, Result, Ok, Err, false}
 use Rattle.std.proofs.Common.{inl, inr}
-use Rattle.std.proofs.lemmas.List.{length-map}
-use Rattle.pas_typed.specs.Types.{PasType, range_of}
+use Rattle.pas_typed.specs.Types.{PasType}
 use Rattle.pas_typed.specs.Typed as typed
 use Rattle.pas_typed.specs.Typed.{FileStep, Variable, Slot, Value, Place, Statement, Arms, TypedProgram}
 use Rattle.pas_typed.specs.TypeOf.{type_of_place, type_of}
 use Rattle.pas_typed.specs.Lawful.{IsOrdinal, IsLawfulPlace, IsLawfulValue, IsLawfulTarget, IsLawfulNumber, Takes}
 use Rattle.pas_meaning.specs.declared.errors.TheConstants.{CALL_LIMIT, STATUS_OUT_OF_RANGE}
 use Rattle.pas_meaning.specs.Answers.{Answer}
-use Rattle.pas_meaning.specs.Outcome.{Run, Doing, pure, ◌>>=◌, ◌>>◌, answered, ask, change, stop, halted}
-use Rattle.pas_meaning.specs.Store.{Datum, holds, Store, number_of, fits}
+use Rattle.pas_meaning.specs.Outcome.{Doing, ◌>>=◌, answered, ask, change, stop, halted}
+use Rattle.pas_meaning.specs.Store.{Datum, holds, Store, fits}
 use Rattle.pas_meaning.specs.Operands.{operand, byte_of}
 use Rattle.pas_meaning.specs.Run as meaning
 use Rattle.pas_meaning.specs.Run.{Spot, Flow, file_of, file_variable, on_file, store_at, with_result}
 use Rattle.pas_meaning.specs.Laws.{Goes}
 use Rattle.pas_meaning.specs.Standing.{Kinds}
-use Rattle.pas_meaning.proofs.OnwardLemmas.{goes_pure, goes_ask, goes_answered, goes_stop, goes_change, goes_bind}
+use Rattle.pas_meaning.proofs.OnwardLemmas.{goes_ask, goes_answered, goes_stop, goes_change}
 use Rattle.pas_meaning.proofs.GoesLemmas.{goes_assigned, goes_store, goes_operand_alone, goes_file_step, goes_on_file}
 use Rattle.pas_run.specs.declared.ends.Flow.{Flow as CodeFlow}
 use Rattle.pas_run.specs.declared.ends.Stop.{Stop}
@@ -30,7 +29,7 @@ use Rattle.pas_run.specs.inner.Doings.{Any, Same, IsNumber, Does, Answers, is_fa
 use Rattle.pas_run.specs.inner.Scenes.{IsSpot}
 use Rattle.pas_run.specs.inner.Evaluating.{value_of, place_at, MeansSpot, IsSlot}
 use Rattle.pas_run.specs.inner.Running.{IsFlow, Runs, statement_of, assigned_to, step_of}
-use Rattle.pas_run.proofs.DoesLemmas.{does_stop, does_next, does_answered, does_pure}
+use Rattle.pas_run.proofs.DoesLemmas.{does_stop, does_next, does_answered}
 use Rattle.pas_run.proofs.OperandLemmas.{operand_stop, operand_next}
 use Rattle.pas_run.proofs.ValueLemmas.{goes_value_of}
 use Rattle.pas_run.proofs.PlaceLemmas.{goes_place_at, spot_of}

@@ -1,6 +1,6 @@
 -- What is read from files and written on them, one item after another.
 use Rattle.std.proofs.Common.{◌≡◌, ℕ, ◌+◌, ◌<◌, ◌≤◌, ℤ, List, [], ◌∷◌, length, map, drop, get_or, refl, sym, ap, ◌∙◌}
-use Rattle.std.proofs.Common.{subst, suc, arith, Option, Some, None, Result, Ok, Err}
+use Rattle.std.proofs.Common.{subst, suc, arith, Option, Some, Result, Ok, Err}
 use Rattle.std.specs.List.{All}
 use Rattle.std.proofs.lemmas.List.{drop_all}
 use Rattle.pas_typed.specs.Types.{PasType}
@@ -10,7 +10,6 @@ use Rattle.pas_meaning.specs.declared.errors.TheConstants.{CALL_LIMIT}
 use Rattle.pas_meaning.specs.Outcome.{Doing, pure, ◌>>=◌, ◌>>◌, ask}
 use Rattle.pas_meaning.specs.Store.{Datum, holds, Store, number_of}
 use Rattle.pas_meaning.specs.Operands.{operand}
-use Rattle.pas_meaning.specs.Run as meaning
 use Rattle.pas_meaning.specs.Run.{within, window, read_at, store_at, buffer_of}
 use Rattle.pas_meaning.specs.Laws.{Goes}
 use Rattle.pas_meaning.specs.Standing.{Kinds}

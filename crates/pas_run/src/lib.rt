@@ -14,6 +14,7 @@ mod lines;
 mod loops;
 mod machine;
 mod places;
+mod quoted;
 mod refusals;
 mod runs;
 mod selectors;

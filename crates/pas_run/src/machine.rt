@@ -8,6 +8,7 @@ ghost use Rattle.pas_run.specs.inner.FlatStore.{cells_of, cell_in, with_cell, ce
 ghost use Rattle.pas_run.specs.inner.Doings.{Does, Answers, Any, Same, asks, is_port_failed};
 ghost use Rattle.pas_run.specs.inner.MachineState.{IsWorld, CountFailures};
 ghost use Rattle.pas_run.specs.inner.Copying.{IsFound};
+ghost use Rattle.pas_typed.specs.Texts.{undoubled};
 ghost use Rattle.wb_ports.specs.PortState.{PortState};
 ghost use Rattle.pas_meaning.specs.Files as files;
 ghost use Rattle.pas_meaning.specs.FileSteps as steps;
@@ -326,16 +327,21 @@ impl<P: Port> Machine<P> {
         stopped(self.files[file].write_char(byte, width))
     }
 
-    // Writes a string on a text in a field of this width.
-    pub(crate) fn write_text(&mut self, file: usize, bytes: &[u8], width: i32) -> Result<(), Stop>
+    // Writes a string, spelled with each quote twice, on a text in a field of this width.
+    pub(crate) fn write_quoted(
+        &mut self,
+        file: usize,
+        spelled: &[u8],
+        width: i32,
+    ) -> Result<(), Stop>
         requires { file < length self.old.files }
         ensures does { (most : ℕ) (kinds : Kinds) → Does most kinds kinds Any
-            (steps.append file (files.written (λ field. files.string_in_field field bytes.now) width))
+            (steps.append file (files.written (λ field. files.string_in_field field (undoubled spelled.now)) width))
             self.old self.new result }
         ensures cause { CountFailures (is_port_failed result) self.old.files self.new.files }
         ensures same { self.new ≡ record self.old { files = self.new.files } }
     {
-        stopped(self.files[file].write_text(bytes, width))
+        stopped(self.files[file].write_quoted(spelled, width))
     }
 
     // Ends a line of a text.

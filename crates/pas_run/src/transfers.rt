@@ -6,6 +6,7 @@ ghost use Rattle.pas_meaning.specs.Run.{on_file};
 ghost use Rattle.pas_run.specs.declared.ends.Stop.{Stop};
 ghost use Rattle.std.specs.Option.{IfSome};
 ghost use Rattle.pas_syntax.specs.Views.{spelled_in};
+ghost use Rattle.pas_typed.specs.Texts.{undoubled};
 ghost use Rattle.pas_typed.specs.Typed as typed;
 ghost use Rattle.pas_meaning.specs.declared.errors.TheConstants.{OUT_OF_RANGE};
 ghost use Rattle.pas_meaning.specs.Operands as operands;
@@ -27,6 +28,7 @@ use crate::arithmetic::byte_of;
 use crate::ends::Stop;
 use crate::layouts::Scene;
 use crate::machine::Machine;
+use crate::quoted::text_length;
 use crate::values::file_variable;
 use pas_meaning::OUT_OF_RANGE;
 use pas_syntax::tree::Span;
@@ -294,15 +296,15 @@ impl<P: Port> Machine<P> {
         levels: u32,
     ) -> Result<(), Stop>
         ensures does { WritesItem scene.entry (slot_view slot)
-            (typed.string_item (spelled_in scene.entry.program.now.spellings text) (option_map value_view given.now))
-            self.old self.new result }
+            (typed.string_item (undoubled (spelled_in scene.entry.program.now.spellings text))
+            (option_map value_view given.now)) self.old self.new result }
         ensures cause { CountFailures (is_port_failed result) self.old.files self.new.files }
     {
         let bytes = spelled(scene, text);
         let own = own_width(bytes)?;
         let width = self.width_or(scene, own, given, levels)?;
         let file = self.file_of(scene, slot)?;
-        self.write_text(file, bytes, width)
+        self.write_quoted(file, bytes, width)
     }
 
     // A width, if one is given, or else this one.
@@ -459,7 +461,7 @@ fn components_of(scene: Scene<'_>, file: &Place) -> PasType
     }
 }
 
-// The bytes of a string of the program.
+// The spelling of a string of the program, in which each quote stands twice.
 fn spelled<'a>(scene: Scene<'a>, text: Span) -> &'a [u8]
     ensures { result.now ≡ spelled_in scene.entry.program.now.spellings text }
 {
@@ -470,13 +472,14 @@ fn spelled<'a>(scene: Scene<'a>, text: Span) -> &'a [u8]
     &rest[..count]
 }
 
-// The width of a string that is written without one.
-fn own_width(bytes: &[u8]) -> Result<i32, Stop>
-    ensures width { IfOk result (λ own. pos (length bytes.now) ≡ own) }
+// The width of a string that is written without one, spelled with each quote twice.
+fn own_width(spelled: &[u8]) -> Result<i32, Stop>
+    ensures width { IfOk result (λ own. pos (length (undoubled spelled.now)) ≡ own) }
     ensures memory { IfErr result (λ why. why ≡ Stop.OutOfMemory) }
 {
-    if bytes.len() <= i32::MAX as usize {
-        Ok(bytes.len() as i32)
+    let own = text_length(spelled);
+    if own <= i32::MAX as usize {
+        Ok(own as i32)
     } else {
         Err(Stop::OutOfMemory)
     }

@@ -1,6 +1,6 @@
 -- What functions of a machine do of statements: what the meaning does, from each scene in which they are lawful. This
 -- project's own.
-use Rattle.std.specs.Prelude.{◌≡◌, ℕ, ℤ, List, Option, Some, None, Result, Ok, Err, ⊤}
+use Rattle.std.specs.Prelude.{◌≡◌, ℕ, ℤ, List, Option, Some, None, Result, Ok, Err}
 use Rattle.pas_syntax.specs.declared.operators.Way.{Way}
 use Rattle.pas_typed.specs.Types.{PasType, range_of}
 use Rattle.pas_typed.specs.Typed as typed
@@ -94,8 +94,8 @@ Stores scene place number =
 abbrev pub Assigns : Scene → Place → Value → MachineState → MachineState → Result (Unit {0}) Stop → Type 0
 Assigns scene place right =
     RunsBy scene
-    (λ variables result. IsLawfulStatement (program_view scene.program.now) variables result (typed.assigns place right))
-    Any (λ most. value_of (program_view scene.program.now) most right
+    (λ variables result.
+    IsLawfulStatement (program_view scene.program.now) variables result (typed.assigns place right)) Any (λ most. value_of (program_view scene.program.now) most right
     >>= assigned_to (program_view scene.program.now) most place)
 
 -- the same where v is an array or a record
@@ -116,8 +116,8 @@ SetsResult scene cell type right =
 abbrev pub Calls : Scene → ℕ → Passed → MachineState → MachineState → Result (Unit {0}) Stop → Type 0
 Calls scene routine passed =
     RunsBy scene
-    (λ variables result. IsLawfulStatement (program_view scene.program.now) variables result (typed.calls routine passed))
-    Any (λ most. meaning.arguments_of (Some CALL_LIMIT) (program_view scene.program.now)
+    (λ variables result.
+    IsLawfulStatement (program_view scene.program.now) variables result (typed.calls routine passed)) Any (λ most. meaning.arguments_of (Some CALL_LIMIT) (program_view scene.program.now)
     (within (Some CALL_LIMIT) (program_view scene.program.now) most) passed
     >>= meaning.call (Some CALL_LIMIT) (program_view scene.program.now)
     (within (Some CALL_LIMIT) (program_view scene.program.now) most) routine)

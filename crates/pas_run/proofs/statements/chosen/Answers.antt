@@ -1,4 +1,4 @@
-use Rattle.std.proofs.Common.{◌≡◌, ℤ, Bool, List, true, false, w32, to_z, of_z, sym, subst, ap, ◌∙◌}
+use Rattle.std.proofs.Common.{ℤ, w32, to_z, of_z, sym, subst, ap, ◌∙◌}
 use Rattle.std.specs.List.{list_any}
 use Rattle.std.proofs.Math.Facts.{to_z-of_z}
 use Rattle.pas_typed.specs.TypedViews.{statement_view, arms_view}

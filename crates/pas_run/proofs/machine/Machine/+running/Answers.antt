@@ -15,6 +15,7 @@ use Rattle.pas_typed.specs.Typed.{Value, Place, Variable, Passed, Body, Statemen
 use Rattle.pas_typed.specs.TypedViews.{function_view, file_test_view, value_view, place_view, call_view, slot_view}
 use Rattle.pas_typed.specs.TypedViews.{part_view, program_view, passed_view, passed_views, file_step_view, item_view}
 use Rattle.pas_typed.specs.TypedViews.{statement_view, statements_view, arms_view, body_view}
+use Rattle.pas_typed.specs.Texts.{undoubled}
 use Rattle.pas_typed.specs.TypeViews.{base_view, range_view, type_view}
 use Rattle.pas_typed.proofs.ValueViews.{part_view-Element, part_view-Field, part_view-Buffer, value_view-Read}
 use Rattle.pas_typed.proofs.ValueViews.{value_view-Call, value_view-Applied, value_view-Tested}
@@ -62,7 +63,6 @@ use Rattle.pas_run.proofs.CallLemmas.{does_after_step, goes_behind_call_step, go
 use Rattle.pas_run.proofs.CallLemmas.{body_not_opened, body_stopped, body_done, procedure_no_arguments}
 use Rattle.pas_run.proofs.CallLemmas.{procedure_stopped, procedure_done}
 use Rattle.std.proofs.Math.Facts.{to_z-of_z}
-use Rattle.pas_syntax.specs.declared.operators.Way.{Way}
 use Rattle.pas_typed.specs.declared.typed.Counted.{Counted as CodeCounted}
 use Rattle.pas_typed.proofs.StatementViews.{statement_view-Empty, statement_view-Assigns, statement_view-SetsResult}
 use Rattle.pas_typed.proofs.StatementViews.{statement_view-Calls, statement_view-Compound, statement_view-If}
@@ -3414,7 +3414,7 @@ write_text_item-returns-in_err-width-clause-does g t c variables result kinds at
     let program = program_view c.args.scene.program.now in
     let slot = slot_view c.args.slot in
     let given = option_map value_view c.args.given.now in
-    let bytes = spelled_in c.args.scene.program.now.spellings c.args.text in
+    let bytes = undoubled (spelled_in c.args.scene.program.now.spellings c.args.text) in
     let item = typed.string_item bytes given in
     let own : to_z w32 (of_z w32 c.in_ok-own.own) ≡ c.in_ok-own.own = search rules in
     does_early most kinds kinds Any (write_item_of program most slot item) c.args.self.now c.width_or.new.self
@@ -3424,7 +3424,7 @@ write_text_item-returns-in_err-width-clause-does g t c variables result kinds at
     (λ width. field_of program most slot (λ field. files.string_in_field field bytes) width) c.args.self.now
     c.width_or.new.self
     c.in_err-width.field-0.0 (λ width. goes_field_of program most slot (λ field. files.string_in_field field bytes)
-    width) (c.in_err-width.ensures.does (length bytes) (ap (λ (bytes : List ℕ). pos (length bytes))
+    width) (c.in_err-width.ensures.does (length bytes) (ap (λ (spelled : List ℕ). pos (length (undoubled spelled)))
     (sym c.spelled-bytes.ensures) ∙ c.in_ok-own.ensures.width ∙ sym own) variables result kinds at is.1 most))
 
 pub write_text_item-returns-in_err-file-clause-does : goal.write_text_item-returns-in_err-file-clause-does
@@ -3432,7 +3432,7 @@ write_text_item-returns-in_err-file-clause-does g t c variables result kinds at 
     let program = program_view c.args.scene.program.now in
     let slot = slot_view c.args.slot in
     let given = option_map value_view c.args.given.now in
-    let bytes = spelled_in c.args.scene.program.now.spellings c.args.text in
+    let bytes = undoubled (spelled_in c.args.scene.program.now.spellings c.args.text) in
     let item = typed.string_item bytes given in
     let own : to_z w32 (of_z w32 c.in_ok-own.own) ≡ c.in_ok-own.own = search rules in
     does_early most kinds kinds Any (write_item_of program most slot item) c.args.self.now c.width_or.new.self
@@ -3442,7 +3442,8 @@ write_text_item-returns-in_err-file-clause-does g t c variables result kinds at 
     (λ width. field_of program most slot (λ field. files.string_in_field field bytes) width) c.args.self.now
     c.width_or.new.self c.width_or.new.self c.in_ok-width.width (Err c.in_err-file.field-0.0)
     (goes_width_of program most (length bytes) given) (c.in_ok-width.ensures.does (length bytes)
-    (ap (λ (bytes : List ℕ). pos (length bytes)) (sym c.spelled-bytes.ensures) ∙ c.in_ok-own.ensures.width ∙ sym own)
+    (ap (λ (spelled : List ℕ). pos (length (undoubled spelled))) (sym c.spelled-bytes.ensures)
+    ∙ c.in_ok-own.ensures.width ∙ sym own)
     variables result kinds at is.1 most)
     (on_no_file most kinds slot (λ number. append number (files.written (λ field. files.string_in_field field bytes)
     c.in_ok-width.width))
@@ -3456,36 +3457,37 @@ write_text_item-returns-clause-does g t c variables result kinds at is most =
     let program = program_view c.args.scene.program.now in
     let slot = slot_view c.args.slot in
     let given = option_map value_view c.args.given.now in
-    let bytes = spelled_in c.args.scene.program.now.spellings c.args.text in
+    let bytes = undoubled (spelled_in c.args.scene.program.now.spellings c.args.text) in
     let item = typed.string_item bytes given in
     let own : to_z w32 (of_z w32 c.in_ok-own.own) ≡ c.in_ok-own.own = search rules in
     let width : to_z w32 (of_z w32 c.in_ok-width.width) ≡ c.in_ok-width.width = search rules in
     found_next most kinds Any (width_of program most (length bytes) given)
     (λ width. field_of program most slot (λ field. files.string_in_field field bytes) width) c.args.self.now
-    c.width_or.new.self c.write_text.new.self c.in_ok-width.width c.write_text.result
+    c.width_or.new.self c.write_quoted.new.self c.in_ok-width.width c.write_quoted.result
     (goes_width_of program most (length bytes) given) (c.in_ok-width.ensures.does (length bytes)
-    (ap (λ (bytes : List ℕ). pos (length bytes)) (sym c.spelled-bytes.ensures) ∙ c.in_ok-own.ensures.width ∙ sym own)
+    (ap (λ (spelled : List ℕ). pos (length (undoubled spelled))) (sym c.spelled-bytes.ensures)
+    ∙ c.in_ok-own.ensures.width ∙ sym own)
     variables result kinds at is.1 most)
     (on_its_file most kinds slot (λ number. append number (files.written (λ field. files.string_in_field field bytes)
     c.in_ok-width.width))
     (λ number. goes_append number (files.written (λ field. files.string_in_field field bytes) c.in_ok-width.width))
     c.width_or.new.self
-    c.write_text.new.self c.in_ok-file.file c.write_text.result
+    c.write_quoted.new.self c.in_ok-file.file c.write_quoted.result
     (does_question most kinds Same (file_of slot) c.width_or.new.self _
     (c.in_ok-file.ensures.file variables result kinds at is.0))
-    (subst (λ (bytes : List ℕ). Does most kinds kinds Any (append c.in_ok-file.file
-    (files.written (λ field. files.string_in_field field bytes)
-    c.in_ok-width.width)) c.width_or.new.self c.write_text.new.self c.write_text.result) c.spelled-bytes.ensures
+    (subst (λ (spelled : List ℕ). Does most kinds kinds Any (append c.in_ok-file.file
+    (files.written (λ field. files.string_in_field field (undoubled spelled))
+    c.in_ok-width.width)) c.width_or.new.self c.write_quoted.new.self c.write_quoted.result) c.spelled-bytes.ensures
     (subst (λ (width : ℤ). Does most kinds kinds Any (append c.in_ok-file.file (files.written
-    (λ field. files.string_in_field field c.spelled-bytes.result.now) width)) c.width_or.new.self
-    c.write_text.new.self c.write_text.result) width (c.write_text.ensures.does most kinds))))
+    (λ field. files.string_in_field field (undoubled c.spelled-bytes.result.now)) width)) c.width_or.new.self
+    c.write_quoted.new.self c.write_quoted.result) width (c.write_quoted.ensures.does most kinds))))
 
 pub write_text_item-returns-in_err-own-clause-does : goal.write_text_item-returns-in_err-own-clause-does
 write_text_item-returns-in_err-own-clause-does g t c variables result kinds at is most =
     let program = program_view c.args.scene.program.now in
     let slot = slot_view c.args.slot in
     let given = option_map value_view c.args.given.now in
-    let bytes = spelled_in c.args.scene.program.now.spellings c.args.text in
+    let bytes = undoubled (spelled_in c.args.scene.program.now.spellings c.args.text) in
     let item = typed.string_item bytes given in
     does_early most kinds kinds Any (write_item_of program most slot item) c.args.self.now c.args.self.now
     c.in_err-own.field-0.0 c.from_residual.result

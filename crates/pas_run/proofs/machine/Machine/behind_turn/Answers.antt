@@ -3,12 +3,11 @@ use Rattle.std.proofs.lemmas.Result.{err_from_is_err_and}
 use Rattle.pas_typed.specs.TypedViews.{statements_view}
 use Rattle.pas_meaning.specs.Run as meaning
 use Rattle.pas_meaning.specs.Run.{within}
-use Rattle.pas_meaning.specs.Outcome.{take_step}
 use Rattle.pas_run.specs.declared.ends.Flow.{Flow as CodeFlow}
 use Rattle.pas_run.specs.declared.ends.Flow.TheVariants as flow
 use Rattle.pas_run.specs.inner.Running.{flow_view, IsFlow, statement_of, entry_by, looped_of, IsTurn}
 use Rattle.pas_run.proofs.DoesLemmas.{does_pure}
-use Rattle.pas_run.proofs.RunningLemmas.{leads_step, done_stop, goes_below}
+use Rattle.pas_run.proofs.RunningLemmas.{leads_step}
 use Rattle.pas_run.proofs.ListLemmas.{turn_early, next_stop}
 use Rattle.pas_run.specs.declared.loops.Turn.TheVariants as turns
 use Rattle.pas_run.specs.inner.Doings.{is_port_failed}

@@ -1,4 +1,4 @@
-use Rattle.std.proofs.Common.{◌≡◌, ℤ, [], Ok, Err, ap, ap₂, sym, subst, rules, to_z, of_z, w32, ◌∙◌, true, false}
+use Rattle.std.proofs.Common.{◌≡◌, ℤ, [], Ok, Err, ap₂, sym, subst, rules, to_z, of_z, w32, ◌∙◌, true, false}
 use Rattle.std.proofs.Math.Facts.{to_z-of_z}
 use Rattle.std.proofs.lemmas.Result.{err_from_is_err_and}
 use Rattle.pas_typed.specs.TypedViews.{slot_view, program_view}

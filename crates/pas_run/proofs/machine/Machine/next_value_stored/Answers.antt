@@ -1,12 +1,10 @@
-use Rattle.std.proofs.Common.{◌≡◌, ℤ, [], Ok, Err, Result, ap, sym, subst, refl, rules, to_z, of_z, w32, w64, ◌∙◌}
+use Rattle.std.proofs.Common.{◌≡◌, ℤ, [], Ok, Err, ap, sym, subst, refl, rules, to_z, of_z, w32, w64, ◌∙◌}
 use Rattle.std.proofs.Math.Facts.{to_z-of_z}
 use Rattle.std.proofs.lemmas.Result.{err_from_is_err_and}
 use Rattle.pas_typed.specs.TypedViews.{slot_view, program_view}
 use Rattle.pas_meaning.specs.Store.{holds}
 use Rattle.pas_meaning.specs.Arithmetic.{within_maxint}
 use Rattle.pas_meaning.specs.Run.{part, store_at, next_value}
-use Rattle.pas_run.specs.declared.ends.Flow.{Flow as CodeFlow}
-use Rattle.pas_run.specs.declared.ends.Stop.{Stop}
 use Rattle.pas_run.specs.inner.Doings.{Any, Same, Does, Answers}
 use Rattle.pas_run.specs.inner.Running.{IsFlow, next_stored_of}
 use Rattle.pas_run.proofs.DoesLemmas.{does_early, quiet_early}

@@ -1,5 +1,4 @@
-use Rattle.std.proofs.Common.{◌<◌, arith, refl, ap, length, Ok, Err, ◌∙◌}
-use Rattle.std.proofs.lemmas.List.{length-map}
+use Rattle.std.proofs.Common.{refl, Ok, Err, ◌∙◌}
 use Rattle.std.proofs.lemmas.Result.{err_from_is_err_and}
 use Rattle.pas_meaning.specs.Files as files
 use Rattle.pas_meaning.specs.FileSteps.{change_file}
@@ -14,8 +13,8 @@ eoln-requires g c = same_many c.args.file c.args.self.now.files c.loop.self.file
 
 pub get-requires : goal.get-requires
 get-requires g c =
-    same_many c.args.file c.args.self.now.files c.eoln.new.self.files (c.in_ok-at_end.ensures.cause ∙ c.loop.invariant.0)
-    c.requires
+    same_many c.args.file c.args.self.now.files c.eoln.new.self.files
+    (c.in_ok-at_end.ensures.cause ∙ c.loop.invariant.0) c.requires
 
 pub loop-init : goal.loop-init
 loop-init g c = (refl, λ kinds. leads_same {T = Unit {0}} kinds Any _ c.args.self.now)

@@ -1,4 +1,4 @@
-use Rattle.std.proofs.Common.{◌≡◌, ℕ}
+use Rattle.std.proofs.Common.{◌≡◌}
 use Rattle.pas_meaning.specs.Files as files
 use Rattle.pas_meaning.specs.FileSteps.{change_file}
 use Rattle.pas_meaning.specs.Standing.{Kinds}

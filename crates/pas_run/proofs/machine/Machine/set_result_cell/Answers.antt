@@ -1,4 +1,4 @@
-use Rattle.std.proofs.Common.{ℕ, ℤ, sym, ap₂, ◌∙◌}
+use Rattle.std.proofs.Common.{ℕ, ℤ, ap₂, ◌∙◌}
 use Rattle.std.proofs.Math.Facts.{to_z-of_z}
 use Rattle.pas_typed.specs.TypedViews.{program_view}
 use Rattle.pas_run.specs.declared.cells.Cell.TheVariants.{Holds}
