@@ -25,7 +25,8 @@ use Rattle.pas_meaning.proofs.KeepsLemmas.{keeps_begin}
 use Rattle.pas_meaning.proofs.KeepsLemmas.{keeps_end_call}
 use Rattle.pas_meaning.proofs.PlaceKeeps.{all_get, slot_aims}
 
-found_there : {A : Type 0} (P : A → Type 0) (test : A → Bool) (xs : List A) (x : A) → All P xs → find test xs ≡ Some x
+pub found_there : {A : Type 0} (P : A → Type 0) (test : A → Bool) (xs : List A) (x : A) → All P xs
+    → find test xs ≡ Some x
     → P x × (test x ≡ true)
 found_there P test [] x all is = absurd (cc)
 found_there {A = A} P test (first ∷ xs) x all is =
@@ -87,7 +88,8 @@ module _ (program : TypedProgram) (lawful : IsLawful program) where
 
   module _ (variables : List Variable) (result : Option PasType) (kinds : Kinds)
       (knows : Knows program variables result kinds) where
-    as_many : (parameters : List Variable) (arguments : List Argument) → AreFor program variables parameters arguments
+    pub as_many : (parameters : List Variable) (arguments : List Argument)
+        → AreFor program variables parameters arguments
         → length parameters ≡ length arguments
     as_many [] [] are = refl
     as_many [] (argument ∷ arguments) are = absurd are
@@ -111,7 +113,7 @@ module _ (program : TypedProgram) (lawful : IsLawful program) where
           )
       meant_matches type (run.window slot of_component) is no_window = absurd (cc)
 
-      arguments_match : (parameters : List Variable) (arguments : List Argument)
+      pub arguments_match : (parameters : List Variable) (arguments : List Argument)
           → AreFor program variables parameters arguments
           → AllMatch more (length kinds) (map kind parameters) (map (cell_of store) arguments)
       arguments_match [] [] are = tt
@@ -153,7 +155,7 @@ module _ (program : TypedProgram) (lawful : IsLawful program) where
       last_row : length inside - 1 ≡ length kinds
       last_row = omega (arith, length-append kinds (kinds_for program body ∷ []))
 
-      knows_inside : Knows program body.variables is.heading.result inside
+      pub knows_inside : Knows program body.variables is.heading.result inside
       knows_inside = record {
         some = omega (arith, length-append kinds (kinds_for program body ∷ []));
         globals = λ number variable there.
@@ -172,7 +174,7 @@ module _ (program : TypedProgram) (lawful : IsLawful program) where
         ordinal = λ type typed_so. result_ordinal body.routine is.heading type is.there typed_so;
       }
 
-      stands_inside : (arguments : List Argument) (store : Store)
+      pub stands_inside : (arguments : List Argument) (store : Store)
           → AreFor program variables is.heading.parameters arguments
           → Stands kinds store → Stands inside (opened (cells_for program body arguments store) store)
       stands_inside arguments store are stands =

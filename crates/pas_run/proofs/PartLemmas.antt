@@ -119,7 +119,7 @@ pub file_cell : (program : TypedProgram) (slot : Slot) → IsLawful program → 
 file_cell program slot lawful is =
     record { leads = shape_of-file program.types slot.type lawful.types is; begins = refl }
 
-no_path : (reference : Reference) → along reference [] ≡ reference
+pub no_path : (reference : Reference) → along reference [] ≡ reference
 no_path reference =
     ap (λ path. record { activation = reference.activation; variable = reference.variable; path = path })
     (append-nil reference.path)

@@ -3,3 +3,9 @@ pub mod FlatStore
 pub mod MachineState
 pub mod Doings
 pub mod Scenes
+pub mod Evaluating
+pub mod Running
+pub mod Copying
+pub mod Calling
+pub mod Laying
+pub mod Starting

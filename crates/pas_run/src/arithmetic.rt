@@ -130,6 +130,13 @@ pub(crate) fn function_at(function: Function, number: i32) -> Result<i32, Stop>
     }
 }
 
+// A boolean as a number.
+pub(crate) fn number_of(truth: bool) -> i32
+    ensures { result ≡ spec.truth truth }
+{
+    if truth { 1 } else { 0 }
+}
+
 // A number as a boolean.
 pub(crate) fn truth_of(number: i32) -> Result<bool, Stop>
     ensures { Answers Same (operands.truth_of (store.holds number)) result }

@@ -1,6 +1,7 @@
 //! Why a run stops, and how a statement goes on.
 ghost use Rattle.std.specs.Prelude.{◌≡◌};
 ghost use Rattle.pas_run.specs.inner.Doings as spec;
+ghost use Rattle.pas_run.specs.inner.Running as running;
 
 use crate::Refused;
 use std::alloc::{AllocError, AllocFailed};
@@ -10,7 +11,7 @@ use wb_base::OutOfMemory;
 #[derive(Clone, Copy, Debug, PartialEq, Eq)]
 pub(crate) enum Stop {
     // The run halts with this status.
-    Halted(u8),
+    Halted(u32),
     // It would take one step more.
     Going,
     // It commits an error of this kind.
@@ -32,6 +33,16 @@ pub(crate) enum Flow {
     Leaves,
     // At a label of a list around it.
     Jump(u32),
+}
+
+// How a statement goes on that did something: behind itself.
+pub(crate) fn next_behind(done: Result<(), Stop>) -> Result<Flow, Stop>
+    ensures { result ≡ running.next_behind done }
+{
+    match done {
+        Ok(()) => Ok(Flow::Next),
+        Err(why) => Err(why),
+    }
 }
 
 // What a step of a file answers, or why the run stops.

@@ -1,16 +1,28 @@
 //! Runs Pascal programs.
 #![tactic(auto)]
 
+mod arguments;
 mod arithmetic;
+mod calls;
 mod cells;
+mod copies;
 mod ends;
 mod files;
+mod laying;
 mod layouts;
 mod lines;
+mod loops;
 mod machine;
 mod places;
+mod quoted;
 mod refusals;
+mod runs;
+mod selectors;
 mod spots;
+mod start;
+mod statements;
+mod transfers;
+mod values;
 
 pub use files::{Ahead, FileState, RunFile, Usage};
 pub use refusals::Refused;

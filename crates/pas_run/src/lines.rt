@@ -1,13 +1,15 @@
 //! What is written on the files of a run, and how a line is passed.
 ghost use Rattle.std.specs.Prelude.{◌≡◌, is_err};
-ghost use Rattle.std.specs.Prelude.{◌≤ℤ◌, ◌++◌, pos, OnOk, replicate, false};
+ghost use Rattle.std.specs.Prelude.{◌≤ℤ◌, ◌++◌, pos, OnOk, replicate, take, false};
 ghost use Rattle.pas_meaning.specs.Files as files;
+ghost use Rattle.pas_typed.specs.Texts.{undoubled};
 ghost use Rattle.wb_ports.specs.Counts.{CountsFailure};
 ghost use Rattle.pas_run.specs.declared.files.Usage.{Usage};
 ghost use Rattle.pas_run.specs.RunFiles.{Puts, Pieces, Appends, Demands, is_port_failed};
 
 use crate::Refused;
 use crate::files::{LINE_END, RunFile, Usage};
+use crate::quoted::{behind_first, text_length};
 use pas_meaning::{UNDEFINED_BUFFER, WIDTH_BELOW_1, WRONG_MODE, write_int};
 use wb_ports::{Failed, Port};
 
@@ -55,6 +57,21 @@ impl<P: Port> RunFile<P> {
         let field = width.unsigned_abs() as usize;
         let count = field.min(bytes.len());
         match self.put_field(field - count, &bytes[..count]) {
+            Ok(()) => Ok(()),
+            Err(_) => Err(Refused::Failed),
+        }
+    }
+
+    /// Writes a string on a text as `write_text` does, from a spelling in which each of its quotes stands twice.
+    pub fn write_quoted(&mut self, spelled: &[u8], width: i32) -> Result<(), Refused>
+        ensures step { Appends (files.written (λ field. files.string_in_field field (undoubled spelled.now)) width)
+            self.old.state (P.told self.old.port) self.new.state (P.told self.new.port) result }
+        ensures cause { CountsFailure (is_port_failed result) (P.failures self.old.port) (P.failures self.new.port) }
+    {
+        self.demand_text(width)?;
+        let field = width.unsigned_abs() as usize;
+        let count = field.min(text_length(spelled));
+        match self.put_quoted_field(field - count, spelled, count) {
             Ok(()) => Ok(()),
             Err(_) => Err(Refused::Failed),
         }
@@ -155,6 +172,48 @@ impl<P: Port> RunFile<P> {
         for byte in bytes {
             match self.port.put(*byte) {
                 Ok(()) => {}
+                Err(failed) => return Err(failed),
+            }
+        }
+        Ok(())
+    }
+
+    // Appends so many spaces, and this many bytes of a text behind them.
+    fn put_quoted_field(
+        &mut self,
+        spaces: usize,
+        spelled: &[u8],
+        count: usize,
+    ) -> Result<(), Failed>
+        requires { self.old.state.usage ≡ Usage.Writing }
+
+        ensures pieces { Pieces (replicate spaces files.space ++ take count (undoubled spelled.now)) self.old.state
+            (P.told self.old.port) self.new.state (P.told self.new.port) result }
+        ensures same { self.new.state ≡ self.old.state }
+        ensures cause { CountsFailure (is_err result) (P.failures self.old.port) (P.failures self.new.port) }
+    {
+        match self.put_spaces(spaces) {
+            Ok(()) => self.put_quoted(spelled, count),
+            Err(failed) => Err(failed),
+        }
+    }
+
+    // Appends this many bytes of a text, or all where it has fewer.
+    fn put_quoted(&mut self, spelled: &[u8], count: usize) -> Result<(), Failed>
+        requires { self.old.state.usage ≡ Usage.Writing }
+
+        ensures pieces { Pieces (take count (undoubled spelled.now)) self.old.state (P.told self.old.port)
+            self.new.state (P.told self.new.port) result }
+        ensures same { self.new.state ≡ self.old.state }
+        ensures cause { CountsFailure (is_err result) (P.failures self.old.port) (P.failures self.new.port) }
+    {
+        let mut rest = spelled;
+        for _done in 0..count {
+            let Some(byte) = rest.first() else {
+                return Ok(());
+            };
+            match self.port.put(*byte) {
+                Ok(()) => rest = behind_first(rest),
                 Err(failed) => return Err(failed),
             }
         }

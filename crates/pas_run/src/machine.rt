@@ -1,12 +1,14 @@
 //! What a run holds: the activations, its steps and its active calls, and its files.
-ghost use Rattle.std.specs.Prelude.{◌≡◌, ℕ, ◌≤◌, ◌<◌, ◌+◌, ◌-◌, ◌^◌, length, nat_abs, List, IfOk, false};
+ghost use Rattle.std.specs.Prelude.{◌≡◌, ℕ, ◌≤◌, ◌<◌, ◌+◌, ◌-◌, ◌^◌, length, nat_abs, List, IfOk, false, map};
 ghost use Rattle.pas_meaning.specs.declared.errors.TheConstants.{CALL_LIMIT};
-ghost use Rattle.std.specs.Prelude.{Some};
+ghost use Rattle.std.specs.Prelude.{Some, [], ◌∷◌, ◌++◌, take};
 ghost use Rattle.pas_meaning.specs.Outcome as run;
 ghost use Rattle.pas_meaning.specs.Standing.{Kinds};
-ghost use Rattle.pas_run.specs.inner.FlatStore.{cell_in, with_cell, cells_at, behind_by};
+ghost use Rattle.pas_run.specs.inner.FlatStore.{cells_of, cell_in, with_cell, cells_at, with_cells, behind_by};
 ghost use Rattle.pas_run.specs.inner.Doings.{Does, Answers, Any, Same, asks, is_port_failed};
 ghost use Rattle.pas_run.specs.inner.MachineState.{IsWorld, CountFailures};
+ghost use Rattle.pas_run.specs.inner.Copying.{IsFound};
+ghost use Rattle.pas_typed.specs.Texts.{undoubled};
 ghost use Rattle.wb_ports.specs.PortState.{PortState};
 ghost use Rattle.pas_meaning.specs.Files as files;
 ghost use Rattle.pas_meaning.specs.FileSteps as steps;
@@ -22,7 +24,7 @@ use wb_ports::Port;
 // What a run holds.
 #[derive(Drop)]
 pub(crate) struct Machine<P: Port> {
-    alloc: Global,
+    pub(crate) alloc: Global,
     // The cells of the activations, the program's first.
     activations: Vec<Vec<Cell>>,
     // The steps that are left.
@@ -79,8 +81,35 @@ impl<P: Port> Machine<P> {
         ensures { self.new
             ≡ record self.old { activations = with_cell (behind_by behind at) cell self.old.activations } }
     {
+        self.set_in(
+            at.activation as usize,
+            at.offset as usize + behind as usize,
+            cell,
+        );
+    }
+
+    // Stores cells from the one on that stands so many behind an address, where all of these are there.
+    pub(crate) fn set_cells(&mut self, at: Address, behind: u32, cells: &[Cell])
+        ensures stored { at.activation < length self.old.activations
+            → at.offset + behind + length cells.now ≤ length (cells_of at self.old.activations)
+            → self.new ≡ record self.old {
+              activations = with_cells (behind_by behind at) cells.now self.old.activations;
+            } }
+        ensures files { self.new.files ≡ self.old.files }
+    {
         let activation = at.activation as usize;
-        let offset = at.offset as usize + behind as usize;
+        let first = at.offset as usize + behind as usize;
+        for number in 0..cells.len() {
+            self.set_in(activation, first + number, cells[number]);
+        }
+    }
+
+    // Stores something in a cell of an activation.
+    fn set_in(&mut self, activation: usize, offset: usize, cell: Cell)
+        ensures { self.new ≡ record self.old {
+          activations = with_cell (record { activation = activation; offset = offset }) cell self.old.activations;
+        } }
+    {
         if activation < self.activations.len() && offset < self.activations[activation].len() {
             self.activations[activation][offset] = cell;
         }
@@ -104,6 +133,7 @@ impl<P: Port> Machine<P> {
     pub(crate) fn take_step(&mut self) -> Result<(), Stop>
         ensures does { (most : ℕ) (kinds : Kinds) → Does most kinds kinds Any run.take_step self.old self.new result }
         ensures fewer { IfOk result (λ _. self.new.steps + 1 ≡ self.old.steps) }
+        ensures quiet { is_port_failed result ≡ false }
         ensures files { self.new.files ≡ self.old.files }
         ensures cells { self.new.activations ≡ self.old.activations }
     {
@@ -118,6 +148,7 @@ impl<P: Port> Machine<P> {
     pub(crate) fn begin_call(&mut self) -> Result<(), Stop>
         ensures does { (most : ℕ) (kinds : Kinds) → Does most kinds kinds Any (run.begin_call (Some CALL_LIMIT))
             self.old self.new result }
+        ensures quiet { is_port_failed result ≡ false }
         ensures files { self.new.files ≡ self.old.files }
         ensures steps { self.new.steps ≡ self.old.steps }
         ensures cells { self.new.activations ≡ self.old.activations }
@@ -127,6 +158,39 @@ impl<P: Port> Machine<P> {
         }
         self.calls += 1;
         Ok(())
+    }
+
+    // An activation comes behind the others.
+    pub(crate) fn push(&mut self, cells: Vec<Cell>) -> Result<(), Stop>
+        ensures found { IsFound (λ _. self.new
+            ≡ record self.old { activations = self.old.activations ++ cells.items ∷ [] }) result }
+        ensures quiet { is_port_failed result ≡ false }
+        ensures files { self.new.files ≡ self.old.files }
+    {
+        if self.activations.len() >= u32::MAX as usize {
+            return Err(Stop::OutOfMemory);
+        }
+        self.activations.push(cells)?;
+        Ok(())
+    }
+
+    // The activation that runs closes, and its call ends: what its cell holds behind so many others.
+    pub(crate) fn close(&mut self, behind: u32) -> Cell
+        ensures cell { result ≡ cell_in (record { activation = length self.old.activations - 1; offset = behind })
+            self.old.activations }
+        ensures closed { self.new ≡ record self.old {
+          activations = take (length self.old.activations - 1) self.old.activations;
+          calls = self.old.calls - 1;
+        } }
+    {
+        let top = Address {
+            activation: self.top(),
+            offset: 0,
+        };
+        let cell = self.cell(top, behind);
+        self.activations.pop();
+        self.calls = self.calls.saturating_sub(1);
+        cell
     }
 
     // How many files there are.
@@ -263,16 +327,21 @@ impl<P: Port> Machine<P> {
         stopped(self.files[file].write_char(byte, width))
     }
 
-    // Writes a string on a text in a field of this width.
-    pub(crate) fn write_text(&mut self, file: usize, bytes: &[u8], width: i32) -> Result<(), Stop>
+    // Writes a string, spelled with each quote twice, on a text in a field of this width.
+    pub(crate) fn write_quoted(
+        &mut self,
+        file: usize,
+        spelled: &[u8],
+        width: i32,
+    ) -> Result<(), Stop>
         requires { file < length self.old.files }
         ensures does { (most : ℕ) (kinds : Kinds) → Does most kinds kinds Any
-            (steps.append file (files.written (λ field. files.string_in_field field bytes.now) width))
+            (steps.append file (files.written (λ field. files.string_in_field field (undoubled spelled.now)) width))
             self.old self.new result }
         ensures cause { CountFailures (is_port_failed result) self.old.files self.new.files }
         ensures same { self.new ≡ record self.old { files = self.new.files } }
     {
-        stopped(self.files[file].write_text(bytes, width))
+        stopped(self.files[file].write_quoted(spelled, width))
     }
 
     // Ends a line of a text.
@@ -284,5 +353,35 @@ impl<P: Port> Machine<P> {
         ensures same { self.new ≡ record self.old { files = self.new.files } }
     {
         stopped(self.files[file].writeln())
+    }
+
+    // A machine before a run, in which the program's activation has these cells.
+    pub(crate) fn new(
+        alloc: Global,
+        cells: Vec<Cell>,
+        steps: u64,
+        files: Vec<RunFile<P>>,
+    ) -> Result<Machine<P>, Stop>
+        ensures made { IsFound (λ machine. machine ≡ record {
+          activations = cells.items ∷ [];
+          steps = steps;
+          calls = 0;
+          files = map (λ file. record {
+            state = file.state;
+            told = P.told file.port;
+            failures = P.failures file.port;
+          }) files.items;
+        }) result }
+        ensures quiet { is_port_failed result ≡ false }
+    {
+        let mut activations = Vec::new(alloc);
+        activations.push(cells)?;
+        Ok(Machine {
+            alloc,
+            activations,
+            steps,
+            calls: 0,
+            files,
+        })
     }
 }

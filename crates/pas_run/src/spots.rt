@@ -11,9 +11,12 @@ ghost use Rattle.pas_meaning.specs.Standing.{Kinds};
 ghost use Rattle.pas_run.specs.inner.MachineState.{CountFailures};
 ghost use Rattle.pas_run.specs.inner.Scenes.{IsScene, IsCell, IsFileSlot, IsSpot};
 ghost use Rattle.pas_typed.specs.Lawful.{IsOrdinal, IsLawfulSlot};
-ghost use Rattle.pas_run.specs.inner.Doings.{IsNumber, Does, Answers, is_port_failed};
+ghost use Rattle.pas_run.specs.inner.Doings.{Any, Same, IsNumber, Does, Answers, is_port_failed};
+ghost use Rattle.pas_meaning.specs.declared.errors.TheConstants.{OUT_OF_RANGE};
+ghost use Rattle.pas_meaning.specs.Answers.{then_answer};
+ghost use Rattle.pas_meaning.specs.Operands as operands;
 
-use crate::arithmetic::in_range;
+use crate::arithmetic::{byte_of, in_range};
 use crate::ends::Stop;
 use crate::layouts::Scene;
 use crate::machine::Machine;
@@ -79,7 +82,12 @@ impl<P: Port> Machine<P> {
     }
 
     // The number that the buffer of a file holds.
-    fn read_window(&mut self, scene: Scene<'_>, slot: Slot, component: PasType) -> Result<i32, Stop>
+    pub(crate) fn read_window(
+        &mut self,
+        scene: Scene<'_>,
+        slot: Slot,
+        component: PasType,
+    ) -> Result<i32, Stop>
         ensures does { (variables : List typed.Variable) (result' : Option types.PasType) (kinds : Kinds)
             → IsScene scene.entry variables result' kinds
             → IsFileSlot (program_view scene.entry.program.now) variables (slot_view slot)
@@ -92,4 +100,77 @@ impl<P: Port> Machine<P> {
         let byte = self.buffer_read(file)?;
         fits(scene, component, i32::from(byte))
     }
+
+    // v := a number, where v is this place of an ordinal type.
+    pub(crate) fn store_at(
+        &mut self,
+        scene: Scene<'_>,
+        pas_type: PasType,
+        spot: Spot,
+        number: i32,
+    ) -> Result<(), Stop>
+        ensures does { (variables : List typed.Variable) (result' : Option types.PasType) (kinds : Kinds)
+            → IsScene scene.entry variables result' kinds → (place : meaning.Spot)
+            → IsSpot (program_view scene.entry.program.now) variables (type_view pas_type) spot place → (most : ℕ)
+            → Does most kinds kinds Any (meaning.store_at (program_view scene.entry.program.now).types
+            (type_view pas_type) place (store.holds number)) self.old self.new result }
+        ensures cause { CountFailures (is_port_failed result) self.old.files self.new.files }
+    {
+        match spot {
+            Spot::Part(slot, behind) => self.store_part(scene, pas_type, slot, behind, number),
+            Spot::Window(slot, component) => self.store_window(scene, slot, component, number),
+        }
+    }
+
+    // The cell of a variable gets a number, which must be in the range of this type.
+    fn store_part(
+        &mut self,
+        scene: Scene<'_>,
+        pas_type: PasType,
+        slot: Slot,
+        behind: u32,
+        number: i32,
+    ) -> Result<(), Stop>
+        ensures does { (variables : List typed.Variable) (result' : Option types.PasType) (kinds : Kinds)
+            → IsScene scene.entry variables result' kinds
+            → IsLawfulSlot (program_view scene.entry.program.now) variables (slot_view slot) → (path : List ℕ)
+            → IsCell (program_view scene.entry.program.now) (slot_view slot) path behind → (most : ℕ)
+            → Does most kinds kinds Any (meaning.store_at (program_view scene.entry.program.now).types
+            (type_view pas_type) (meaning.part (slot_view slot) path) (store.holds number)) self.old self.new result }
+        ensures cause { CountFailures (is_port_failed result) self.old.files self.new.files }
+    {
+        let checked = fits(scene, pas_type, number)?;
+        self.set_number(scene, slot, behind, Some(checked));
+        Ok(())
+    }
+
+    // The buffer of a file gets a number, which must be in the range of its components.
+    pub(crate) fn store_window(
+        &mut self,
+        scene: Scene<'_>,
+        slot: Slot,
+        component: PasType,
+        number: i32,
+    ) -> Result<(), Stop>
+        ensures does { (variables : List typed.Variable) (result' : Option types.PasType) (kinds : Kinds)
+            → IsScene scene.entry variables result' kinds
+            → IsFileSlot (program_view scene.entry.program.now) variables (slot_view slot)
+            → (type : types.PasType) (most : ℕ)
+            → Does most kinds kinds Any (meaning.store_at (program_view scene.entry.program.now).types type
+            (meaning.window (slot_view slot) (type_view component)) (store.holds number)) self.old self.new result }
+        ensures cause { CountFailures (is_port_failed result) self.old.files self.new.files }
+    {
+        let byte = byte_for(scene, component, number)?;
+        let file = self.file_of(scene, slot)?;
+        self.buffer_set(file, byte)
+    }
+}
+
+// A number for the buffer of a file of components of this type.
+fn byte_for(scene: Scene<'_>, component: PasType, number: i32) -> Result<u8, Stop>
+    ensures byte { Answers Same (then_answer (store.fits (program_view scene.entry.program.now).types
+        (type_view component) (store.holds number)) (operands.byte_of OUT_OF_RANGE)) result }
+    ensures quiet { is_port_failed result ≡ false }
+{
+    byte_of(OUT_OF_RANGE, fits(scene, component, number)?)
 }

@@ -4,6 +4,7 @@ pub mod Words
 pub mod Nearest
 pub mod Regions
 pub mod Parse
+pub mod Parsed
 pub mod ParseRows
 pub mod Views
 pub mod ProgramViews

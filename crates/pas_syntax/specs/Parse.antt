@@ -1,7 +1,7 @@
 -- What a text means: the one tree that spells its tokens, or the first token that no program goes on with.
-use Rattle.std.specs.Prelude.{◌≡◌, ◌≢◌, ◌⊎◌, ℕ, ◌||◌, nat_lt, Bool, true, false, if◌then◌else◌, List, [], ◌∷◌, ◌++◌}
+use Rattle.std.specs.Prelude.{◌≡◌, ◌≢◌, ◌⊎◌, ℕ, ◌||◌, nat_lt, if◌then◌else◌, List, ◌∷◌, ◌++◌}
 use Rattle.std.specs.Prelude.{map, All}
-use Rattle.std.specs.Prelude.{Option, Some, None, Result, Ok, Err}
+use Rattle.std.specs.Prelude.{Option, Some, None, Ok, Err}
 use Rattle.wb_base.specs.declared.faults.Fault.{Fault}
 use Rattle.wb_base.specs.declared.faults.TheConstants.{PASCAL_SYNTAX, PASCAL_LEFT_OUT, NESTING_PAST_LIMIT}
 use Rattle.pas_tokens.specs.Cutting.{Wrong, wrong}
@@ -77,6 +77,10 @@ Shows before token refusal =
 -- the text means this tree
 abbrev pub Means : List ℕ → Program → Type 0
 Means text program = (tokens : List Token) × (tokens_of text ≡ Ok tokens) × Spells tokens program
+
+-- some text means this tree
+abbrev pub IsOfText : Program → Type 0
+IsOfText program = (text : List ℕ) × Means text program
 
 -- the first token of a text that shows a fault, and it
 pub record FirstFault (text : List ℕ) (fault : Fault) : Type 0 where

@@ -2,7 +2,7 @@
 ghost use Rattle.std.specs.Prelude.{◌≡◌, IfOk, Ok, List};
 ghost use Rattle.wb_base.specs.WorkResult.{IfFault};
 ghost use Rattle.pas_tokens.specs.Tokens.{Token, tokens_of, fault_in};
-ghost use Rattle.pas_syntax.specs.Parse.{Means, IsFaultOf, left_out, misplaced_by};
+ghost use Rattle.pas_syntax.specs.Parse.{Means, IsOfText, IsFaultOf, left_out, misplaced_by};
 ghost use Rattle.pas_syntax.specs.ProgramViews.{program_in};
 ghost use Rattle.pas_syntax.specs.inner.Places.{spelled_of};
 
@@ -14,17 +14,49 @@ use crate::stop::Stop;
 use crate::tree::ProgramTree;
 use pas_tokens::Cursor;
 use std::alloc::Global;
+use std::marker::Model;
 use wb_base::faults::{PASCAL_LEFT_OUT, PASCAL_SYNTAX};
 use wb_base::{Fault, FileTag, Text, WorkErr};
 
-/// A program, and the spellings of its names and strings.
+/// A program that some text means.
 #[derive(Drop)]
 pub struct Program {
+    spellings: Text,
+    tree: ProgramTree,
+}
+
+impl Model for Program {
+    ghost use Rattle.std.specs.Coded.{codes};
+    ghost use Rattle.pas_syntax.specs.contracts.tree.ProgramTree as row;
+    ghost use Rattle.pas_syntax.specs.Parse.{IsOfText};
+    ghost use Rattle.pas_syntax.specs.ProgramViews.{program_in};
+    ghost use Rattle.pas_syntax.specs.Parsed.{Parsed};
+
+    ghost Value = { Parsed };
+
+    ghost coded = { Prim.hlevel (codes, row.the_row.coded) };
+
+    ghost view = { λ program. record { spellings = program.spellings; tree = program.tree } };
+
+    ghost invariant = { λ program. IsOfText (program_in program.spellings program.tree) };
+}
+
+impl Program {
     /// The spellings of all names, in small letters, and of all strings, one after the other. The spans of the tree are
     /// parts of them.
-    pub spellings: Text,
+    pub fn spellings(&self) -> &[u8]
+        ensures { result.now ≡ self.now.spellings }
+    {
+        self.spellings.bytes()
+    }
+
     /// The tree.
-    pub tree: ProgramTree,
+    pub fn tree(&self) -> &ProgramTree
+        ensures tree { result.now ≡ self.now.tree }
+        ensures of_text { IsOfText (program_in self.now.spellings self.now.tree) }
+    {
+        &self.tree
+    }
 }
 
 /// Reads the program that a text means, by the grammar of ISO 7185 in this project's profile.

@@ -34,6 +34,7 @@ use Rattle.pas_typed.specs.Typed as typed
 use Rattle.pas_typed.specs.Typed.{Home, Mode, Variable, Slot, Function, FileTest, FileStep, Value, Place, Passed, Item}
 use Rattle.pas_typed.specs.Typed.{Statement, Statements, Arms, Heading, Body, TypedProgram}
 use Rattle.pas_typed.specs.TypeViews.{base_view, range_view, type_view, table_view}
+use Rattle.pas_typed.specs.Texts.{undoubled}
 
 abbrev pub home_view : CodeHome → Home
 home_view home.Global = typed.global
@@ -164,7 +165,8 @@ module _ (spellings : List ℕ) where
   abbrev pub item_view : CodeItem → Item
   item_view (item.Number value width) = typed.number_item (value_view value) (option_map value_view width)
   item_view (item.Char value width) = typed.char_item (value_view value) (option_map value_view width)
-  item_view (item.Text text width) = typed.string_item (spelled_in spellings text) (option_map value_view width)
+  item_view (item.Text text width) =
+      typed.string_item (undoubled (spelled_in spellings text)) (option_map value_view width)
 
   abbrev pub statement_step : OfStatements Statement-F → Statement
   statement_step Statement-F.Empty = typed.empty

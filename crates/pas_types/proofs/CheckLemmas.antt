@@ -49,7 +49,7 @@ names_many outer names =
       );
     }
 
-parameters_many : (outer : Outer) (parameters : Option ProgramParameters)
+pub parameters_many : (outer : Outer) (parameters : Option ProgramParameters)
     → AsMany (words_if program_parameters_words parameters) (parameter_marks outer parameters)
 parameters_many outer None = none
 parameters_many outer (Some parameters) =

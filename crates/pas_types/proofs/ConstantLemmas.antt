@@ -1,7 +1,7 @@
 -- What functions on constants answer.
 use Rattle.std.proofs.Common.{◌≡◌, refl, sym, ap, ℕ, pos, Bool, true, false, List, [], ◌∷◌, ◌++◌}
 use Rattle.std.proofs.Common.{length, Option, Some, None, Result, Ok, Err, arith}
-use Rattle.std.specs.Prelude.{⊤, ◌==◌, ◌≢◌, slice_index_or}
+use Rattle.std.specs.Prelude.{⊤, ◌==◌, ◌≢◌, ◌<◌, nat_lt, slice_index_or}
 use Rattle.std.proofs.lemmas.Bool.Decides.{nat_tests}
 use Rattle.pas_tokens.specs.Cutting.{Wrong}
 use Rattle.pas_syntax.specs.declared.operators.Sign.{Sign}
@@ -107,3 +107,45 @@ many_bytes (byte ∷ (next ∷ (third ∷ more))) one two = by (byte == single_q
     by : (at : Bool) → None ≡ only_byte (byte ∷ text_behind at (next ∷ (third ∷ more)))
     by true = refl
     by false = refl
+
+-- whether it has more than one byte
+more_than_one : (n : ℕ) → 1 < n → true ≡ nat_lt 1 n
+more_than_one n h = grind (arith, nat_tests)
+
+pub short_none : (text : List ℕ) → length text ≡ 0 → false ≡ nat_lt 1 (length (undoubled text))
+short_none [] many = refl
+short_none (byte ∷ text) many = absurd (omega (arith, many))
+
+pub short_one : (text : List ℕ) → length text ≡ 1 → false ≡ nat_lt 1 (length (undoubled text))
+short_one [] many = refl
+short_one (byte ∷ []) many = refl
+short_one (byte ∷ (next ∷ text)) many = absurd (omega (arith, many))
+
+pub short_two : (text : List ℕ) → length text ≡ 2 → slice_index_or text 0 0 ≡ single_quote
+    → false ≡ nat_lt 1 (length (undoubled text))
+short_two [] many quote = refl
+short_two (byte ∷ []) many quote = refl
+short_two (byte ∷ (next ∷ [])) many quote =
+    sym (ap (λ (at : Bool). nat_lt 1 (length (byte ∷ text_behind at (next ∷ []))))
+    (ap (λ (n : ℕ). n == single_quote) quote))
+short_two (byte ∷ (next ∷ (third ∷ more))) many quote = absurd (omega (arith, many))
+
+pub long_two : (text : List ℕ) → length text ≡ 2 → slice_index_or text 0 0 ≢ single_quote
+    → true ≡ nat_lt 1 (length (undoubled text))
+long_two [] many other = absurd (omega (arith, many))
+long_two (byte ∷ []) many other = absurd (omega (arith, many))
+long_two (byte ∷ (next ∷ [])) many other =
+    sym (ap (λ (at : Bool). nat_lt 1 (length (byte ∷ text_behind at (next ∷ [])))) (no_quote byte other))
+long_two (byte ∷ (next ∷ (third ∷ more))) many other = absurd (omega (arith, many))
+
+pub long_many : (text : List ℕ) → length text ≢ 0 → length text ≢ 1 → length text ≢ 2
+    → true ≡ nat_lt 1 (length (undoubled text))
+long_many [] none one two = absurd (none refl)
+long_many (byte ∷ []) none one two = absurd (one refl)
+long_many (byte ∷ (next ∷ [])) none one two = absurd (two refl)
+long_many (byte ∷ (next ∷ (third ∷ more))) none one two = by (byte == single_quote)
+  where
+    by : (at : Bool) → true ≡ nat_lt 1 (length (byte ∷ text_behind at (next ∷ (third ∷ more))))
+    by true = more_than_one (length (byte ∷ (third ∷ text_behind (third == single_quote) more))) (omega arith)
+    by false =
+        more_than_one (length (byte ∷ (next ∷ text_behind (next == single_quote) (third ∷ more)))) (omega arith)

@@ -2,7 +2,7 @@
 use Rattle.std.proofs.Common.{◌≡◌, ◌≢◌, refl, sym, ap, subst, ◌∙◌, ℕ, Bool, true, false, List, [], ◌∷◌, ◌++◌, Option}
 use Rattle.std.proofs.Common.{Some}
 use Rattle.std.proofs.Common.{None, Result, Ok, Err, cond, ◌||◌, not}
-use Rattle.std.specs.Prelude.{option_map, if◌then◌else◌}
+use Rattle.std.specs.Prelude.{option_map, if◌then◌else◌, length}
 use Rattle.std.specs.Str.{bytes_eq}
 use Rattle.wb_base.specs.declared.faults.Fault.{Fault}
 use Rattle.wb_base.specs.declared.faults.TheConstants.{DUPLICATE_NAME}
@@ -25,12 +25,13 @@ use Rattle.pas_types.specs.NameViews.{with_new}
 use Rattle.pas_types.specs.ScopeViews.{inner_view, outer_view, scopes_view, IsClear, Agrees}
 use Rattle.pas_types.specs.inner.NameAnswers.{taken_in, new_faults, IsNewName}
 use Rattle.pas_types.specs.inner.Declared.{first_noted, IsAlike, IsOuter, Notes, NotesIf, constant_meant}
-use Rattle.pas_types.specs.inner.Declared.{Declares}
+use Rattle.pas_types.specs.inner.Declared.{Declares, IsCounted}
 use Rattle.pas_types.proofs.AsMany.{next_word, before_word}
 use Rattle.pas_types.proofs.TypesAsMany.{constant_many}
 use Rattle.pas_types.proofs.SettleLemmas.{quiet_word, quiet_alone}
 use Rattle.pas_types.proofs.SubrangeLemmas.{constant_agrees}
 use Rattle.pas_types.proofs.DeclaredLemmas.{entity_push, pushed_alike, notes_behind, notes_quiet}
+use Rattle.pas_types.proofs.CountedLemmas.{counted_name, constant_there, constant_held}
 
 -- scopes that stand for a scope of the program
 module _ (outer : Outer) (old : CodeScopes) where
@@ -105,7 +106,7 @@ clear_by : (b : Bool) (last : Named) (outside : Option Entity) → last.entity �
 clear_by true last outside known clear is = known cc
 clear_by false last outside known clear is = clear is
 
-clear_behind : (inside : Option Entity) (last : Named) (name : List ℕ) (outside : Option Entity)
+pub clear_behind : (inside : Option Entity) (last : Named) (name : List ℕ) (outside : Option Entity)
     → last.entity ≢ unclear → or_else inside outside ≢ Some unclear
     → or_else (or_else inside (entity_in (last ∷ []) name)) outside ≢ Some unclear
 clear_behind None last name outside known clear = clear_by (bytes_eq last.name name) last outside known clear
@@ -232,6 +233,11 @@ module _ (old new : CodeScopes) (row : ConstantRow) (first : Result (Unit {0}) S
     declared = λ outer h. record {
       alone = alone_behind outer old new row.name.name entity entity refl is h.alone;
       outer_is = row_outer outer h.alone noted one two noted_is notes clear h.outer_is;
+      is_counted =
+          let value : Option ConstantValue = (value_in (program_scopes outer)).value in
+          subst (IsCounted (constant_row outer row).outer) (sym (ap (λ (scopes : CodeScopes). scopes.cells) is))
+          (counted_name outer old.cells (names row.name.name (constant_meant value))
+          (constant_there (length outer.types) value) (constant_held (length outer.types) value) h.is_counted);
     };
     notes = λ outer h. row_notes outer h.alone noted one two noted_is notes h.outer_is;
   }

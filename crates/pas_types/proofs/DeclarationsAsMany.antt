@@ -111,14 +111,14 @@ global_row_many outer found =
     (form_of (program_scopes outer) outer.types found.form)
     (form_many (program_scopes outer) outer.types 0 found.form)
 
-local_row_many : (outer : Outer) (table : Table) (inner : Inner) (found : VariableRow)
+pub local_row_many : (outer : Outer) (table : Table) (inner : Inner) (found : VariableRow)
     → AsMany (variable_row_words found) (local_row outer table inner found).marks
 local_row_many outer table inner found =
     let scopes : Scopes = routine_scopes (record outer { types = table }) inner in
     variables_many found (names_of inner.names) (local_only inner declared (spellings_of found.names))
     (form_of scopes table found.form) (form_many scopes table 0 found.form)
 
-more_local_many : (outer : Outer) (table : Table) (inner : Inner) (rows : List VariableRow)
+pub more_local_many : (outer : Outer) (table : Table) (inner : Inner) (rows : List VariableRow)
     → AsMany (flat_map variable_row_words rows) (more_local_rows outer table inner rows).marks
 more_local_many outer table inner [] = none
 more_local_many outer table inner (first ∷ more) =

@@ -164,7 +164,7 @@ last_of_append faults (token ∷ (next ∷ tokens)) first more =
 abbrev joined_to : Marks → Marks → Marks
 joined_to part next = record { tokens = part.tokens ++ next.tokens; behind = next.behind }
 
-first_nothing : (behind : List Wrong) (tokens : List (List Wrong))
+pub first_nothing : (behind : List Wrong) (tokens : List (List Wrong))
     → first_of [] behind tokens ≡ record { tokens = tokens; behind = behind }
 first_nothing behind [] = refl
 first_nothing behind (first ∷ more) = refl

@@ -1,7 +1,7 @@
 -- Values that are fit for what takes them, or not.
 use Rattle.std.proofs.Common.{◌≡◌, refl, sym, ap, subst, ◌∙◌, ℕ, Bool, true, false, List, [], ◌∷◌, Option, Some, None}
 use Rattle.std.proofs.Common.{Result, Ok, Err, map}
-use Rattle.std.specs.Prelude.{IfOk, OnErr, ◌&&◌, option_map, is_some, if◌then◌else◌, option_and_then}
+use Rattle.std.specs.Prelude.{◌&&◌, option_map, is_some, if◌then◌else◌}
 use Rattle.std.proofs.lemmas.Option.{none-some}
 use Rattle.wb_base.specs.declared.faults.TheConstants.{WRONG_TYPE, FILE_RULE}
 use Rattle.pas_tokens.specs.Cutting.{Wrong, wrong}
@@ -10,11 +10,10 @@ use Rattle.pas_typed.specs.declared.typed.Function.{Function as CodeFunction}
 use Rattle.pas_typed.specs.declared.typed.Function.TheVariants as function
 use Rattle.pas_typed.specs.declared.typed.Mode.{Mode as CodeMode}
 use Rattle.pas_typed.specs.declared.typed.Mode.TheVariants as mode
-use Rattle.pas_typed.specs.declared.typed.Place as code_place
 use Rattle.pas_typed.specs.declared.typed.Call as code_call
 use Rattle.pas_typed.specs.declared.typed.Value.TheVariants as code_value
 use Rattle.pas_typed.specs.TypeViews.{type_view}
-use Rattle.pas_typed.specs.TypedViews.{function_view, mode_view, place_view, value_view, passed_views}
+use Rattle.pas_typed.specs.TypedViews.{function_view, mode_view, value_view, passed_views}
 use Rattle.pas_typed.proofs.ValueViews.{value_view-Call, call_view-roll}
 use Rattle.pas_typed.specs.Types.{PasType, Table, integer, text, same_type}
 use Rattle.pas_typed.specs.Typed as typed
@@ -24,15 +23,14 @@ use Rattle.pas_types.specs.declared.stop.Stop.{Stop}
 use Rattle.pas_types.specs.Marks.{Marks, Judged, judged, known, both, checked}
 use Rattle.pas_types.specs.Marks.{checked_by, kept_by, unless, at_first}
 use Rattle.pas_types.specs.Expressions.{Demand, bare, bare_argument, met, asked_nothing, function_demand, only}
-use Rattle.pas_types.specs.Expressions.{demand_of_mode, compatible_with, is_reference, place_in, file_in, file_only}
-use Rattle.pas_types.specs.Expressions.{is_file, test_demand, without_arguments}
+use Rattle.pas_types.specs.Expressions.{demand_of_mode, compatible_with, is_reference, place_in, file_in}
+use Rattle.pas_types.specs.Expressions.{test_demand, without_arguments}
 use Rattle.pas_types.specs.inner.Answers.{Ending, noted_end, lawful_end, short_end, stands_by, EndsAs, FailsBy}
 use Rattle.pas_types.specs.inner.Answers.{StandsAs}
-use Rattle.pas_types.specs.inner.Answers.{Means, Stands}
+use Rattle.pas_types.specs.inner.Answers.{Stands}
 use Rattle.pas_types.specs.declared.judged.Judged.{Judged as CodeJudged}
 use Rattle.pas_typed.specs.declared.typed.Variable.{Variable as CodeVariable}
 use Rattle.pas_types.specs.inner.Arguments.{Taker, taken_as, taken_by, is_asked_of, not_asked, passing_in}
-use Rattle.pas_types.specs.inner.ExpressionAnswers.{SettlesBefore}
 use Rattle.pas_types.proofs.AnswerLemmas.{checked_fails, checked_stands, made_ends, ends_moved, word_misses}
 use Rattle.pas_types.proofs.PartLemmas.{alone}
 
@@ -89,17 +87,11 @@ asked_demand table typed.eoln value false is_text named asked =
     ap (λ (is : Bool). if is then unless (same_type (type_of value) text) (wrong FILE_RULE) else wrong WRONG_TYPE ∷ [])
     named
 
--- a value that is no place is no reference, and no file
+-- a value that is no place is no reference
 pub no_reference : (type : PasType) (value : Value) → place_in value ≡ None
     → is_reference type (place_in value) ≡ true → ⊥
 no_reference type value none is =
     let no : is_reference type (place_in value) ≡ false = ap (is_reference type) none in cc
-
-pub no_file : (table : Table) (value : Value) → place_in value ≡ None → is_some (file_in table value) ≡ true → ⊥
-no_file table value none is =
-    let no : is_some (file_in table value) ≡ false =
-    ap (λ (found : Option Place). is_some (option_and_then (λ place. if is_file table place then Some place else None)
-    found)) none in cc
 
 -- an argument of an expression is its value
 bare_value : (value : Option Value) → both (λ value nothing. value) value (Some bare) ≡ value
@@ -143,21 +135,6 @@ checked_met {A = A} demand part value h = by part.value h
     by : (found : Option A) → (checked_by demand part.marks found).value ≡ Some value → demand value ≡ []
     by None h = absurd (none-some value h)
     by (Some found) h = kept found (demand found) refl h
-
--- the place that a file is
-unless_met : (holds : Bool) → unless holds (wrong WRONG_TYPE) ≡ [] → holds ≡ true
-unless_met true h = refl
-unless_met false h = cc
-
-pub alone_settles : (line : ℕ) (words : List Word) (table : Table) (part : Judged Value) (value : Value)
-    (result : Result code_place.Place Stop) → IfOk result (λ place. value ≡ typed.read (place_view place))
-    → OnErr result (place_in value ≡ None) → Means words (checked (file_only table) part) value
-    → SettlesBefore line words (checked (file_only table) part) (λ place. typed.read (place_view place)) result
-alone_settles line words table part value (Ok place) is none h =
-    subst (λ (found : Value). Means words (checked (file_only table) part) found) is h
-alone_settles line words table part value (Err why) is none h =
-    absurd (no_file table value none
-    (unless_met (is_some (file_in table value)) (checked_met (file_only table) part value h.known)))
 
 -- a name that is called without its arguments
 pub name_misses : (word : Word) (number : ℕ) (type : PasType) (parameters : List Variable) → (parameters ≡ [] → ⊥)

@@ -16,10 +16,10 @@ use Rattle.pas_types.specs.inner.LabelViews.{entered, left}
 use Rattle.pas_types.specs.inner.LabelViews.{stood}
 
 -- one of two by a test that is known
-by_true : {A : Type 0} (b : Bool) (x y : A) → b ≡ true → (if b then x else y) ≡ x
+pub by_true : {A : Type 0} (b : Bool) (x y : A) → b ≡ true → (if b then x else y) ≡ x
 by_true b x y is = ap (λ (test : Bool). if test then x else y) is
 
-by_false : {A : Type 0} (b : Bool) (x y : A) → b ≡ false → (if b then x else y) ≡ y
+pub by_false : {A : Type 0} (b : Bool) (x y : A) → b ≡ false → (if b then x else y) ≡ y
 by_false b x y is = ap (λ (test : Bool). if test then x else y) is
 
 -- a label that is among others, in whatever order they are compared

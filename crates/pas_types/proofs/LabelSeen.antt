@@ -47,12 +47,12 @@ module _ (spellings : List ℕ) where
   labels_so_far first more =
       labels_of_list (in_turn (tree.first_statement first) (map (more_statement_in spellings) more))
 
-  turned_push : {A : Type 0} (start : A) (steps : List (A → A)) (step : A → A)
+  pub turned_push : {A : Type 0} (start : A) (steps : List (A → A)) (step : A → A)
       → in_turn start (steps ++ step ∷ []) ≡ step (in_turn start steps)
   turned_push start [] step = refl
   turned_push start (first ∷ steps) step = turned_push (first start) steps step
 
-  map_push : {A B : Type 0} (f : A → B) (xs : List A) (x : A) → map f (xs ++ x ∷ []) ≡ map f xs ++ f x ∷ []
+  pub map_push : {A B : Type 0} (f : A → B) (xs : List A) (x : A) → map f (xs ++ x ∷ []) ≡ map f xs ++ f x ∷ []
   map_push f [] x = refl
   map_push f (first ∷ xs) x = ap (λ rest. f first ∷ rest) (map_push f xs x)
 

@@ -11,10 +11,11 @@ use Rattle.pas_syntax.specs.Words.{Word}
 use Rattle.pas_types.specs.declared.stop.Stop.{Stop}
 use Rattle.pas_types.specs.declared.stop.Stop.TheVariants as stop
 use Rattle.pas_types.specs.Marks.{Marks, no_token, quiet, shows, first_of, followed, joined, listed, last_of}
-use Rattle.pas_types.specs.Marks.{Judged, judged, both, all_known, first_fault}
+use Rattle.pas_types.specs.Marks.{judged, both, all_known, first_fault}
 use Rattle.pas_types.specs.inner.Ends.{shown_behind, refusal_behind, lowest_of}
 use Rattle.pas_types.specs.inner.Stopping.{shown_in}
 use Rattle.pas_types.specs.inner.Answers.{EndsAs, StopsBy, Shows, FailsBy, IsQuiet, closed_end, Ending}
+pub use Rattle.pas_types.specs.inner.Listed.{Item, item_words, behind_items, items_marks, values_of, closed_marks}
 use Rattle.pas_types.proofs.AsMany.{AsMany, none, and_then, next_word}
 use Rattle.pas_types.proofs.EndLemmas.{behind_quiet, quiet_many, end_append, stops_within, last_of_nothing}
 use Rattle.pas_types.proofs.PartLemmas.{alone}
@@ -42,29 +43,9 @@ grouped_marks a b c = by_tokens b.tokens b.behind c.tokens c.behind
         ap (λ (tokens : List (List Wrong)). of tokens (first_of behind last third).behind)
         (sym (append_assoc a.tokens ((a.behind ++ first) ∷ second) (first_of behind last third).tokens))
 
-pub record Item (B : Type 0) : Type 0 where
-  pub before : Word
-  pub words : List Word
-  pub part : Judged B
-
-abbrev pub item_words : {B : Type 0} → List (Item B) → List Word
-item_words [] = []
-item_words (item ∷ items) = item.before ∷ (item.words ++ item_words items)
-
-abbrev pub behind_items : {B : Type 0} → List (Item B) → Marks
-behind_items [] = no_token
-behind_items (item ∷ items) = followed quiet (followed item.part.marks (behind_items items))
-
--- a name, and the items behind it
-abbrev pub items_marks : {B : Type 0} → List (Item B) → Marks
-items_marks items = followed quiet (behind_items items)
-
 abbrev pub AreMany : {B : Type 0} → List (Item B) → Type 0
 AreMany [] = ⊤
 AreMany (item ∷ items) = AsMany item.words item.part.marks × AreMany items
-
-abbrev pub values_of : {B : Type 0} → List (Item B) → Option (List B)
-values_of items = all_known (map (λ item. item.part.value) items)
 
 -- items behind others
 pub words_append : {B : Type 0} (items more : List (Item B))
@@ -189,9 +170,6 @@ item_quiet name before item is_short h k =
     (sym (append-nil item.words)) (quiet_alone item.words item.part.marks is_short k))))
 
 -- the whole, with the word that closes it
-abbrev pub closed_marks : Marks → List Wrong → Marks
-closed_marks part faults = followed part (shows faults)
-
 pub call_marks : {B : Type 0} (first : Item B) (items : List (Item B)) (faults : List Wrong)
     → joined (quiet ∷ quiet ∷ listed (map (λ item. item.part.marks) (first ∷ items)) ∷ shows faults ∷ [])
     ≡ closed_marks (items_marks (first ∷ items)) faults

@@ -1,7 +1,7 @@
 -- Names that are declared one behind another.
 use Rattle.std.proofs.Common.{◌≡◌, refl, sym, ap, subst, ◌∙◌, ℕ, ◌+◌, ◌<◌, arith, false, List, [], ◌∷◌, ◌++◌, length}
 use Rattle.std.proofs.Common.{zero, suc, ◌≤◌, map, take, drop, get_or, Result, Ok, Err}
-use Rattle.std.specs.Prelude.{flat_map, ⊤}
+use Rattle.std.specs.Prelude.{flat_map}
 use Rattle.std.proofs.lemmas.List.{append_assoc, append-nil, map-append, take_more, take_all}
 use Rattle.pas_tokens.specs.declared.kinds.Kind.TheVariants as k
 use Rattle.pas_syntax.specs.declared.tree.Ident.{Ident as CodeIdent}
@@ -14,7 +14,7 @@ use Rattle.pas_types.specs.declared.stop.Stop.TheVariants as stop
 use Rattle.pas_types.specs.Marks.{Marks, quiet, shows, joined, listed}
 use Rattle.pas_types.specs.Scopes.{each_new}
 use Rattle.pas_types.specs.inner.Answers.{FailsBy, IsQuiet}
-use Rattle.pas_types.specs.inner.NameAnswers.{new_faults, IsNewName, AreNewNames}
+use Rattle.pas_types.specs.inner.NameAnswers.{new_faults, IsNewName, AreNewNames, AreNew}
 use Rattle.pas_types.proofs.AsMany.{AsMany, one, next_word, behind_word}
 use Rattle.pas_types.proofs.SettleLemmas.{quiet_behind, quiet_word, quiet_alone, shows_front, shows_behind}
 use Rattle.pas_types.proofs.SettleLemmas.{shows_alone}
@@ -30,11 +30,6 @@ rest_words n more = flat_map (λ behind. at n k.Comma behind.line ∷ (name_at n
 
 abbrev names_marks : List (List ℕ) → Ident → List (Behind Ident) → Marks
 names_marks taken ident more = listed (each_new taken (ident ∷ items more))
-
--- names that are new one after another, behind others
-abbrev pub AreNew : List (List ℕ) → List (List ℕ) → Type 0
-AreNew taken [] = ⊤
-AreNew taken (name ∷ names) = (new_faults taken name ≡ []) × AreNew (taken ++ name ∷ []) names
 
 new_push : (taken names : List (List ℕ)) (name : List ℕ) → AreNew taken names → new_faults (taken ++ names) name ≡ []
     → AreNew taken (names ++ name ∷ [])
@@ -222,6 +217,12 @@ module _ (around start : List (List ℕ)) (first : Ident) where
         → SoFar around start first (seen_behind spellings (take i more)) names
         → AreNewNames (around ++ start) (all_names first (seen_behind spellings more)) (Ok tt)
     names_ended names all h = ended (seen_behind spellings more) names (all_so_far names all h)
+
+    -- they are new one after another
+    pub names_new : (names : List (List ℕ)) → length more ≤ i
+        → SoFar around start first (seen_behind spellings (take i more)) names
+        → AreNew (around ++ start) (first.name ∷ spelled (items (seen_behind spellings more)))
+    names_new names all h = (all_so_far names all h).new
 
 -- where a `?` returns early
 pub new_names_stop : (taken : List (List ℕ)) (idents : Idents) (why : Stop) (result : Result (Unit {0}) Stop)

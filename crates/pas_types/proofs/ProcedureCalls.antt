@@ -1,7 +1,7 @@
 -- What the call of a procedure is, by what its name stands for.
 use Rattle.std.proofs.Common.{◌≡◌, refl, sym, ap, subst, ℕ, suc, ◌+◌, arith, List, [], ◌∷◌, length, map}
 use Rattle.std.proofs.Common.{Option, Some, None}
-use Rattle.std.specs.Prelude.{option_map}
+use Rattle.std.specs.Prelude.{◌≢◌, option_map}
 use Rattle.std.proofs.lemmas.List.{length-append}
 use Rattle.wb_base.specs.declared.faults.TheConstants.{WRONG_TYPE}
 use Rattle.pas_tokens.specs.declared.kinds.Kind.TheVariants as k
@@ -15,11 +15,14 @@ use Rattle.pas_typed.specs.declared.types.PasType.{PasType as CodePasType}
 use Rattle.pas_typed.specs.TypeViews.{type_view}
 use Rattle.pas_typed.specs.TypedViews.{heading_view, variable_view}
 use Rattle.pas_typed.specs.Typed as typed
-use Rattle.pas_typed.specs.Typed.{Heading, Value, Passed, Statement}
+use Rattle.pas_typed.specs.Typed.{Heading, Statement}
+use Rattle.pas_types.specs.declared.names.Entity.{Entity as CodeEntity}
+use Rattle.pas_types.specs.declared.names.Entity.TheVariants as code
 use Rattle.pas_types.specs.Marks.{Judged, judged, known}
-use Rattle.pas_types.specs.Scopes.{Scopes}
+use Rattle.pas_types.specs.Scopes.{Scopes, unclear}
+use Rattle.pas_types.specs.NameViews.{entity_view}
 use Rattle.pas_types.specs.Expressions.{Given, called, not_called, heading_of, given, demands_of, passed_to}
-use Rattle.pas_types.specs.Calls.{actuals_of, without_width, procedure_with, routine_with}
+use Rattle.pas_types.specs.Calls.{Actual, actuals_of, without_width, procedure_with, routine_with, call_by}
 use Rattle.pas_types.specs.inner.Answers.{Shows, Means}
 use Rattle.pas_types.specs.inner.Arguments.{passing_part}
 use Rattle.pas_types.proofs.AsMany.{total, count}
@@ -38,6 +41,22 @@ refused_statement scopes n name arguments refusal =
     let all : count (not_called (refusal ∷ []) givens) ≡ suc (suc (total (map plain_marks givens))) =
     not_called_count (refusal ∷ []) givens (omega (arith, sum)) in
     record { many = omega (arith, sum, all, length-append words (close ∷ [])); first = refl }
+
+-- what a name stands for that may not be called so
+pub other_statement : (scopes : Scopes) (actuals : List Actual) (entity : CodeEntity)
+    → ((number : ℕ) → entity ≡ code.Routine number → ⊥) → ((step : _) → entity ≡ code.FileStep step → ⊥)
+    → ((found : _) → entity ≡ code.Procedure found → ⊥) → entity_view entity ≢ unclear
+    → call_by scopes actuals (Some (entity_view entity))
+    ≡ judged (not_called (wrong WRONG_TYPE ∷ []) (map without_width actuals)) None
+other_statement scopes actuals (code.Constant base value) h k l clear = refl
+other_statement scopes actuals (code.Type found) h k l clear = refl
+other_statement scopes actuals (code.Variable slot) h k l clear = refl
+other_statement scopes actuals (code.Routine number) h k l clear = absurd (h number refl)
+other_statement scopes actuals (code.Function found) h k l clear = refl
+other_statement scopes actuals (code.FileTest test) h k l clear = refl
+other_statement scopes actuals (code.FileStep step) h k l clear = absurd (k step refl)
+other_statement scopes actuals (code.Procedure found) h k l clear = absurd (l found refl)
+other_statement scopes actuals code.Unclear h k l clear = absurd (clear refl)
 
 -- what a part means becomes something else
 pub made_means : {A B : Type 0} (words : List Word) (make : A → B) (part : Judged A) (value : A)

@@ -29,6 +29,7 @@ use Rattle.pas_types.specs.Routines.{ordinal_result, result_part, missing_result
 use Rattle.pas_types.specs.Routines.{first_heading, second_heading, more_than_name, awaited, headed_by, headed}
 use Rattle.pas_types.specs.Routines.{label_missing, result_missing, inner_of, with_body, RoutineStage}
 use Rattle.pas_types.specs.Routines.{routine_by, routine_of, routines_of}
+use Rattle.pas_types.specs.inner.RoutineAnswers.{rest_words, parts_words}
 use Rattle.pas_types.proofs.AsMany.{AsMany, none, one, and_then, all, next_word, around, behind_word}
 use Rattle.pas_types.proofs.AsMany.{between, noted_many, checked_many, maybe_many, new_names_many, at_first_many}
 use Rattle.pas_types.proofs.AsMany.{nothing_behind, regrouped}
@@ -43,7 +44,7 @@ type_name_many outer inner n (tree.type_named ident) = type_named_many (routine_
 type_name_many outer inner n (tree.no_type_name form) = left_out_many n form
 
 -- parameters
-parameter_many : (outer : Outer) (inner : Inner) (n : ℕ) (parameter : Parameter)
+pub parameter_many : (outer : Outer) (inner : Inner) (n : ℕ) (parameter : Parameter)
     → AsMany (parameter_words n parameter) (parameter_of outer inner parameter).marks
 parameter_many outer inner n (tree.parameters var idents colon found) =
     let demand : Made → List Wrong = local_only inner (mode_of var) (spellings_of idents) in
@@ -69,7 +70,7 @@ more_formals_many outer n words before (behind ∷ more) h =
     (around (at n k.Semicolon behind.line) before.marks (parameter_of outer before.inner behind.item).marks h
     (parameter_many outer before.inner n behind.item)))
 
-formals_many : (outer : Outer) (inner : Inner) (parameters : Option Parameters)
+pub formals_many : (outer : Outer) (inner : Inner) (parameters : Option Parameters)
     → AsMany (words_if parameters_words parameters) (formals_of outer inner parameters).marks
 formals_many outer inner None = none
 formals_many outer inner (Some parameters) =
@@ -83,22 +84,14 @@ formals_many outer inner (Some parameters) =
     (all one_parameter (parameter_many outer inner 1 parameters.items.first)))))
 
 -- headings, with the semicolon behind them
-result_many : (outer : Outer) (inner : Inner) (result : Option (Behind TypeName))
+pub result_many : (outer : Outer) (inner : Inner) (result : Option (Behind TypeName))
     → AsMany (words_if result_words result) (result_part outer inner result).marks
 result_many outer inner None = none
 result_many outer inner (Some result) =
     behind_word (at 0 k.Colon result.line) (checked ordinal_result (type_in_heading outer inner result.item)).marks
     (checked_many ordinal_result (type_in_heading outer inner result.item) (type_name_many outer inner 0 result.item))
 
--- what stands behind the name
-abbrev rest_words : HeadingParts → ℕ → List Word
-rest_words head line =
-    words_if parameters_words head.parameters ++ (words_if result_words head.result ++ at 0 k.Semicolon line ∷ [])
-
-abbrev parts_words : Word → HeadingParts → ℕ → List Word
-parts_words word head line = word ∷ (name_at 0 head.name ∷ rest_words head line)
-
-rest_many : (outer : Outer) (inner : Inner) (behind : Inner) (head : HeadingParts) (line : ℕ) (faults : List Wrong)
+pub rest_many : (outer : Outer) (inner : Inner) (behind : Inner) (head : HeadingParts) (line : ℕ) (faults : List Wrong)
     → AsMany (rest_words head line) (joined ((formals_of outer inner head.parameters).marks
     ∷ (result_part outer behind head.result).marks ∷ shows faults ∷ []))
 rest_many outer inner behind head line faults =
@@ -121,7 +114,7 @@ first_heading_many outer word head line =
     (next_word (name_at 0 head.name) faults (joined (formals.marks ∷ result ∷ missing ∷ []))
     (rest_many outer (new_inner number []) formals.inner head line (missing_result head.sort head.result)))
 
-second_heading_many : (outer : Outer) (word : Word) (head : HeadingParts) (number line : ℕ)
+pub second_heading_many : (outer : Outer) (word : Word) (head : HeadingParts) (number line : ℕ)
     → AsMany (parts_words word head line) (second_heading outer head number).marks
 second_heading_many outer word head number line =
     let formals : Formal = formals_of outer (new_inner number []) head.parameters in
@@ -210,7 +203,7 @@ routine_by_many found sort (tree.block labels variables body) head end h =
       );
     }
 
-routine_many : (outer : Outer) (found : Routine) → AsMany (routine_words found) (routine_of outer found).marks
+pub routine_many : (outer : Outer) (found : Routine) → AsMany (routine_words found) (routine_of outer found).marks
 routine_many outer found =
     let head : HeadingParts = head_of found.heading in
     let semicolon : List Word = at 0 k.Semicolon found.behind_heading ∷ [] in

@@ -152,7 +152,7 @@ more_constants_many scopes base before n words found (behind ∷ more) h =
     (around (at n k.Comma behind.line) found.marks (checked demand next).marks h
     (checked_many demand next (constant_many scopes n behind.item))))
 
-constants_many : (scopes : Scopes) (base : Option Base) (before : List ℤ) (n : ℕ) (constants : Separated Constant)
+pub constants_many : (scopes : Scopes) (base : Option Base) (before : List ℤ) (n : ℕ) (constants : Separated Constant)
     → AsMany (separated n k.Comma (constant_words n) constants) (constants_of scopes base before constants).marks
 constants_many scopes base before n constants =
     let start : Judged (List ℤ) = judged no_token (Some []) in
@@ -165,7 +165,7 @@ constants_many scopes base before n constants =
     (all (checked demand first).marks (checked_many demand first (constant_many scopes n constants.first)))))
 
 module _ (scopes : Scopes) where
-  test_many : (n : ℕ) (expr : tree.Expr) → AsMany (expr_words n 0 expr) (test_of scopes expr).marks
+  pub test_many : (n : ℕ) (expr : tree.Expr) → AsMany (expr_words n 0 expr) (test_of scopes expr).marks
   test_many n expr = checked_many (only boolean scopes.outer.types) (value_of scopes expr) (value_many scopes n 0 expr)
 
   -- a word, a condition, a word, and what stands behind it

@@ -22,12 +22,14 @@ use Rattle.pas_types.specs.NameViews.{with_new}
 use Rattle.pas_types.specs.ScopeViews.{outer_view, scopes_view, IsClear, Agrees}
 use Rattle.pas_types.specs.inner.NameAnswers.{taken_in, IsNewName}
 use Rattle.pas_types.specs.inner.Declared.{first_noted, IsAlike, IsOuter, Notes, NotesIf, type_meant, Declares}
+use Rattle.pas_types.specs.inner.Declared.{IsCounted}
 use Rattle.pas_types.proofs.AsMany.{next_word, before_word}
 use Rattle.pas_types.proofs.TypesAsMany.{form_many}
 use Rattle.pas_types.proofs.SettleLemmas.{quiet_word, quiet_alone}
 use Rattle.pas_types.proofs.DeclaredLemmas.{pushed_alike, notes_behind, notes_quiet}
 use Rattle.pas_types.proofs.ConstantRowLemmas.{alike_of, agrees_of, notes_name, name_free, free_in, notes_clear}
 use Rattle.pas_types.proofs.ConstantRowLemmas.{none_before, clear_push}
+use Rattle.pas_types.proofs.CountedLemmas.{counted_type, form_made, named_outer}
 
 -- the scope behind a name, and types
 module _ (outer : Outer) (old new : CodeScopes) (name : List ℕ) (entity meant : Entity) (same : entity ≡ meant)
@@ -175,6 +177,11 @@ module _ (old new : CodeScopes) (row : TypeRow) (first : Result (Unit {0}) Stop)
       declared = λ outer h. record {
         alone = ap (λ (scopes : CodeScopes). scopes.inner) is ∙ h.alone;
         outer_is = row_outer outer h.alone noted one two noted_is notes clear h.outer_is;
+        is_counted = subst (IsCounted (type_row outer row).outer)
+            (sym (ap (λ (scopes : CodeScopes). scopes.cells) is))
+            (counted_type outer old.cells row.name.name (form_of (program_scopes outer) outer.types row.form).value
+            (form_made (program_scopes outer) outer.types (named_outer outer h.is_counted.names) row.form)
+            h.is_counted);
       };
       notes = λ outer h. row_notes outer h.alone noted one two noted_is notes h.outer_is;
     }

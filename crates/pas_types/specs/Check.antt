@@ -1,6 +1,6 @@
 -- What checking a program gives: its typed program, or the first fault of its rules in the order of the text (ISO 7185,
 -- 6.10, in this project's profile).
-use Rattle.std.specs.Prelude.{◌≡◌, ℕ, ◌&&◌, Bool, true, false, not, List, [], ◌∷◌, ◌++◌, map, filter}
+use Rattle.std.specs.Prelude.{◌≡◌, ℕ, ◌&&◌, Bool, true, false, not, List, [], ◌∷◌, ◌++◌, map, filter, fold}
 use Rattle.std.specs.Prelude.{Option, Some, None, option_to_list, flat_map, position}
 use Rattle.std.specs.Str.{bytes_eq}
 use Rattle.wb_base.specs.declared.faults.Fault.{Fault}
@@ -13,6 +13,7 @@ use Rattle.pas_typed.specs.Types.{text, Table}
 use Rattle.pas_typed.specs.Typed.{declared, Variable, global, TypedProgram}
 use Rattle.pas_types.specs.Scopes.{Entity, variable, KnownRoutine, Outer, standard_names, contains, idents_of}
 use Rattle.pas_types.specs.Scopes.{entity_in}
+use Rattle.pas_types.specs.NameViews.{with_name}
 use Rattle.pas_types.specs.Labels.{labels_of_list, label_at_end}
 use Rattle.pas_types.specs.Statements.{statements_of}
 use Rattle.pas_types.specs.Declarations.{declared_labels, label_marks, program_scopes, rows_of, constant_row, type_row}
@@ -28,6 +29,10 @@ parameter_idents (Some parameters) = idents_of parameters.names
 abbrev pub parameter_names : Program → List (List ℕ)
 parameter_names program = map (λ ident. ident.name) (parameter_idents program.parameters)
 
+-- names, each once
+abbrev pub each_once : List (List ℕ) → List (List ℕ)
+each_once found = fold with_name [] found
+
 -- `input` and `output` are text files where they are parameters
 abbrev pub standard_variables : List (List ℕ) → List Variable
 standard_variables parameters =
@@ -36,9 +41,10 @@ standard_variables parameters =
 -- the scope of a program before its declarations
 abbrev pub start : Program → Outer
 start program =
-    let variables = standard_variables (parameter_names program) in
+    let parameters = each_once (parameter_names program) in
+    let variables = standard_variables parameters in
     record {
-      parameters = parameter_names program;
+      parameters = parameters;
       labels = declared_labels program.labels;
       last_label = label_at_end program.body.list;
       types = [];
@@ -101,7 +107,7 @@ checked_of program =
       meaning = both (λ bodies statements. record {
         types = outer.types;
         globals = outer.globals;
-        files = file_numbers outer.globals outer.parameters;
+        files = file_numbers outer.globals (parameter_names program);
         headings = map (λ found. found.heading) outer.routines;
         bodies = bodies;
         labels = outer.labels;

@@ -8,6 +8,7 @@ pub mod Statements
 pub mod Declarations
 pub mod Routines
 pub mod Check
+pub mod Checked
 pub mod CheckRows
 pub mod NameViews
 pub mod OutsideViews

@@ -1,6 +1,6 @@
 -- Constants and type expressions (ISO 7185, 6.3 and 6.4, in this project's profile): what they mean, and the faults of
 -- their tokens.
-use Rattle.std.specs.Prelude.{ℕ, ◌==◌, nat_le, ℤ, pos, neg_ℤ, int_le, Bool, true, false, not}
+use Rattle.std.specs.Prelude.{ℕ, nat_le, ℤ, pos, neg_ℤ, int_le, Bool, true, false, not}
 use Rattle.std.specs.Prelude.{if◌then◌else◌, List, [], ◌∷◌, ◌++◌, map, codes, Option, Some, None, option_map}
 use Rattle.std.specs.Prelude.{is_some, unwrap_or, option_to_list}
 use Rattle.std.specs.Str.{bytes_eq}
@@ -21,6 +21,7 @@ use Rattle.pas_typed.specs.Types.{subrange, array, fields, file, Table, range_of
 use Rattle.pas_types.specs.Scopes.{Entity, constant, type, unclear, Scopes, entity_of, spellings_of}
 use Rattle.pas_types.specs.Scopes.{new_names}
 use Rattle.pas_typed.specs.Types.{is_component, Made, made}
+pub use Rattle.pas_typed.specs.Texts.{single_quote, text_behind, undoubled}
 
 -- the marks of a token that may stand there
 abbrev pub maybe_quiet : {A : Type 0} → Option A → Marks
@@ -36,18 +37,6 @@ pub record ConstantValue : Type 0 where
 
 abbrev pub known_value : Base → ℤ → ConstantValue
 known_value base value = record { base = base; value = value }
-
--- the text of a string, in which each quote stands twice; it may begin behind the first quote of two
-abbrev pub single_quote : ℕ
-single_quote = 39
-
-abbrev pub text_behind : Bool → List ℕ → List ℕ
-text_behind behind_quote [] = []
-text_behind true (byte ∷ bytes) = text_behind false bytes
-text_behind false (byte ∷ bytes) = byte ∷ text_behind (byte == single_quote) bytes
-
-abbrev pub undoubled : List ℕ → List ℕ
-undoubled bytes = text_behind false bytes
 
 -- a string of one byte is a char; a longer one may stand only where something is written
 abbrev pub char_in : List ℕ → Judged ConstantValue

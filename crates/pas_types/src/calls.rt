@@ -1,8 +1,8 @@
 //! Statements that call a procedure (ISO 7185, 6.8.2.3 and 6.9, in this project's profile).
-ghost use Rattle.std.specs.Prelude.{ℕ, ◌+◌, ◌∷◌, [], List, Some, map, option_map};
+ghost use Rattle.std.specs.Prelude.{◌≡◌, ◌≢◌, ℕ, ◌+◌, ◌∷◌, [], List, Some, map, option_map};
 ghost use Rattle.std.specs.Option.{option_copied};
 ghost use Rattle.pas_syntax.specs.Tree as tree;
-ghost use Rattle.pas_syntax.specs.Views.{ident_in, expr_in};
+ghost use Rattle.pas_syntax.specs.Views.{ident_in, expr_in, if_there};
 ghost use Rattle.pas_syntax.specs.ProgramViews.{argument_in, arguments_in};
 ghost use Rattle.pas_syntax.specs.Words.{Word, name_at, expr_words, argument_words, plain_words};
 ghost use Rattle.pas_typed.specs.Types.{integer};
@@ -11,6 +11,8 @@ ghost use Rattle.pas_typed.specs.Typed.{Value as SpecValue};
 ghost use Rattle.pas_typed.specs.TypedViews.{variable_view, passed_view, passed_views, heading_view, statement_view};
 ghost use Rattle.pas_typed.specs.TypedViews.{value_view, place_view, file_step_view};
 ghost use Rattle.pas_types.specs.Marks.{Judged as SpecJudged};
+ghost use Rattle.pas_types.specs.Scopes.{entity_of, unclear};
+ghost use Rattle.pas_types.specs.NameViews.{entity_view, procedure_view};
 ghost use Rattle.pas_types.specs.Expressions.{Demand, value_of, heading_of, file_only, only};
 ghost use Rattle.pas_types.specs.Calls as spec;
 ghost use Rattle.pas_types.specs.ScopeViews.{scopes_view, IsClear};
@@ -20,20 +22,138 @@ ghost use Rattle.pas_types.specs.inner.Arguments.{taken_by, taken_as, plainly, p
 use crate::expressions::value_of;
 use crate::functions::{argument_of, is_file, one_too_many, place_alone};
 use crate::judged::Judged;
+use crate::names::{Entity, Procedure};
 use crate::scopes::Scopes;
 use crate::stop::{Stop, demand, fault};
-use pas_syntax::tree::{Argument, Arguments, Ident};
+use crate::transfers::{Extent, read_alone, read_call, write_alone, write_call};
+use pas_syntax::tree::{Argument, Arguments, Ident, ProcedureCall};
 use pas_typed::typed::{FileStep, Heading, Passed, Place, Statement, Value, Variable};
 use pas_typed::types::Base;
 use sqlite_items::{Boxed, Items};
-use wb_base::faults::WRONG_TYPE;
+use wb_base::faults::{UNKNOWN_NAME, WRONG_TYPE};
+
+// What the call of a procedure means.
+pub(crate) fn call_of(scopes: &Scopes<'_>, call: &ProcedureCall) -> Result<Statement, Stop>
+    ensures { IsClear (scopes_view scopes.now) → (n : ℕ)
+        → Settles (plain_words n (tree.procedure_call (ident_in scopes.now.spellings.now call.now.name)
+        (if_there (arguments_in scopes.now.spellings.now) call.now.arguments)))
+        (spec.call_of (scopes_view scopes.now)
+        (entity_of (scopes_view scopes.now) (ident_in scopes.now.spellings.now call.now.name).name)
+        (if_there (arguments_in scopes.now.spellings.now) call.now.arguments))
+        (statement_view scopes.now.spellings.now) result }
+{
+    match &call.arguments {
+        Some(arguments) => call_with(scopes, call.name, arguments),
+        None => call_alone(scopes, call.name),
+    }
+}
+
+// What a name by itself means as a statement.
+fn call_alone(scopes: &Scopes<'_>, ident: Ident) -> Result<Statement, Stop>
+    ensures { IsClear (scopes_view scopes.now) → (n : ℕ)
+        → Settles (name_at n (ident_in scopes.now.spellings.now ident) ∷ [])
+        (spec.call_alone (scopes_view scopes.now)
+        (entity_of (scopes_view scopes.now) (ident_in scopes.now.spellings.now ident).name))
+        (statement_view scopes.now.spellings.now) result }
+{
+    match scopes.named(ident) {
+        Some(entity) => alone_as(scopes, entity, ident),
+        None => Err(fault(UNKNOWN_NAME, ident.line)),
+    }
+}
+
+// The same of a name that stands for this.
+fn alone_as(scopes: &Scopes<'_>, entity: Entity, ident: Ident) -> Result<Statement, Stop>
+    ensures { entity_view entity ≢ unclear → (n : ℕ)
+        → Settles (name_at n (ident_in scopes.now.spellings.now ident) ∷ [])
+        (spec.call_alone (scopes_view scopes.now) (Some (entity_view entity)))
+        (statement_view scopes.now.spellings.now) result }
+{
+    match entity {
+        Entity::Routine(number) => routine_alone(scopes, ident, number),
+        Entity::FileStep(_) => Err(Stop::Missing),
+        Entity::Procedure(procedure) => procedure_alone(scopes, procedure, ident.line),
+        _ => Err(fault(WRONG_TYPE, ident.line)),
+    }
+}
+
+// What the name of a required procedure in this line means as a statement.
+fn procedure_alone(scopes: &Scopes<'_>, procedure: Procedure, line: u32) -> Result<Statement, Stop>
+    ensures { (word : Word) → word.token.line ≡ line → Settles (word ∷ [])
+        (spec.procedure_alone (scopes_view scopes.now) (procedure_view procedure))
+        (statement_view scopes.now.spellings.now) result }
+{
+    match procedure {
+        Procedure::Read => read_alone(scopes, line, Extent::ItemsAlone),
+        Procedure::Readln => read_alone(scopes, line, Extent::WholeLine),
+        Procedure::Write => write_alone(scopes, line, Extent::ItemsAlone),
+        Procedure::Writeln => write_alone(scopes, line, Extent::WholeLine),
+        Procedure::Uexit => Err(Stop::Missing),
+    }
+}
+
+// What a call with arguments means.
+fn call_with(scopes: &Scopes<'_>, ident: Ident, arguments: &Arguments) -> Result<Statement, Stop>
+    ensures { IsClear (scopes_view scopes.now) → (n : ℕ) → Settles
+        (plain_words n (tree.procedure_call (ident_in scopes.now.spellings.now ident)
+        (Some (arguments_in scopes.now.spellings.now arguments.now))))
+        (spec.call_by (scopes_view scopes.now) (spec.actuals_of (scopes_view scopes.now)
+        (arguments_in scopes.now.spellings.now arguments.now).items)
+        (entity_of (scopes_view scopes.now) (ident_in scopes.now.spellings.now ident).name))
+        (statement_view scopes.now.spellings.now) result }
+{
+    match scopes.named(ident) {
+        Some(entity) => with_as(scopes, entity, ident, arguments),
+        None => Err(fault(UNKNOWN_NAME, ident.line)),
+    }
+}
+
+// The same of a name that stands for this.
+fn with_as(
+    scopes: &Scopes<'_>,
+    entity: Entity,
+    ident: Ident,
+    arguments: &Arguments,
+) -> Result<Statement, Stop>
+    ensures { IsClear (scopes_view scopes.now) → entity_view entity ≢ unclear → (n : ℕ) → Settles
+        (plain_words n (tree.procedure_call (ident_in scopes.now.spellings.now ident)
+        (Some (arguments_in scopes.now.spellings.now arguments.now))))
+        (spec.call_by (scopes_view scopes.now) (spec.actuals_of (scopes_view scopes.now)
+        (arguments_in scopes.now.spellings.now arguments.now).items) (Some (entity_view entity)))
+        (statement_view scopes.now.spellings.now) result }
+{
+    match entity {
+        Entity::Routine(number) => routine_with(scopes, ident, number, arguments),
+        Entity::FileStep(step) => step_with(scopes, step, arguments),
+        Entity::Procedure(procedure) => procedure_with(scopes, procedure, ident.line, arguments),
+        _ => Err(fault(WRONG_TYPE, ident.line)),
+    }
+}
+
+// What the call with arguments of a required procedure means, of which the name stands in this line.
+fn procedure_with(
+    scopes: &Scopes<'_>,
+    procedure: Procedure,
+    line: u32,
+    arguments: &Arguments,
+) -> Result<Statement, Stop>
+    ensures { IsClear (scopes_view scopes.now) → (n : ℕ) (name : tree.Ident) → name.line ≡ line → Settles
+        (plain_words n (tree.procedure_call name (Some (arguments_in scopes.now.spellings.now arguments.now))))
+        (spec.procedure_of (scopes_view scopes.now) (procedure_view procedure)
+        (spec.actuals_of (scopes_view scopes.now) (arguments_in scopes.now.spellings.now arguments.now).items))
+        (statement_view scopes.now.spellings.now) result }
+{
+    match procedure {
+        Procedure::Read => read_call(scopes, line, Extent::ItemsAlone, arguments),
+        Procedure::Readln => read_call(scopes, line, Extent::WholeLine, arguments),
+        Procedure::Write => write_call(scopes, line, Extent::ItemsAlone, arguments),
+        Procedure::Writeln => write_call(scopes, line, Extent::WholeLine, arguments),
+        Procedure::Uexit => halt_with(scopes, arguments),
+    }
+}
 
 // What the name of a routine means as a statement: the call of a procedure that takes no arguments.
-pub(crate) fn routine_alone(
-    scopes: &Scopes<'_>,
-    ident: Ident,
-    number: u32,
-) -> Result<Statement, Stop>
+fn routine_alone(scopes: &Scopes<'_>, ident: Ident, number: u32) -> Result<Statement, Stop>
     ensures { (n : ℕ) → Settles (name_at n (ident_in scopes.now.spellings.now ident) ∷ [])
         (spec.routine_alone number (heading_of (scopes_view scopes.now) number))
         (statement_view scopes.now.spellings.now) result }
@@ -69,7 +189,7 @@ fn heading_alone(
 }
 
 // What the call of a declared procedure with arguments means.
-pub(crate) fn routine_with(
+fn routine_with(
     scopes: &Scopes<'_>,
     ident: Ident,
     number: u32,
@@ -144,11 +264,7 @@ fn actual_of(
 }
 
 // What a step of a file means.
-pub(crate) fn step_with(
-    scopes: &Scopes<'_>,
-    step: FileStep,
-    arguments: &Arguments,
-) -> Result<Statement, Stop>
+fn step_with(scopes: &Scopes<'_>, step: FileStep, arguments: &Arguments) -> Result<Statement, Stop>
     ensures { IsClear (scopes_view scopes.now) → (n : ℕ) (name : tree.Ident) → Settles
         (plain_words n (tree.procedure_call name (Some (arguments_in scopes.now.spellings.now arguments.now))))
         (spec.step_with (scopes_view scopes.now).outer.types (file_step_view step)
@@ -179,7 +295,7 @@ fn stepped(scopes: &Scopes<'_>, found: Judged<Value>) -> Result<Judged<Boxed<Pla
 }
 
 // What `uexit` means.
-pub(crate) fn halt_with(scopes: &Scopes<'_>, arguments: &Arguments) -> Result<Statement, Stop>
+fn halt_with(scopes: &Scopes<'_>, arguments: &Arguments) -> Result<Statement, Stop>
     ensures { IsClear (scopes_view scopes.now) → (n : ℕ) (name : tree.Ident) → Settles
         (plain_words n (tree.procedure_call name (Some (arguments_in scopes.now.spellings.now arguments.now))))
         (spec.halt_with (scopes_view scopes.now).outer.types

@@ -19,17 +19,16 @@ use crate::names::Entity;
 use crate::new_names::{Region, new_alone};
 use crate::noting::note;
 use crate::scopes::Scopes;
-use crate::stop::Stop;
 use crate::type_forms::form_of;
 use pas_syntax::tree::{Constant, ConstantRow, Rows, TypeForm, TypeRow};
-use wb_base::Fault;
+use wb_base::{Fault, OutOfMemory};
 
 // Declares constants.
 pub(crate) fn constants_of(
     scopes: &mut Scopes<'_>,
     noted: &mut Option<Fault>,
     rows: Option<&Rows<ConstantRow>>,
-) -> Result<(), Stop>
+) -> Result<(), OutOfMemory>
     ensures declares { OnOk result (Declares
         (words_if (rows_words k.Const constant_row_words)
         (if_there (rows_in scopes.old.spellings.now (constant_row_in scopes.old.spellings.now))
@@ -51,7 +50,7 @@ fn constant_rows(
     scopes: &mut Scopes<'_>,
     noted: &mut Option<Fault>,
     rows: &Rows<ConstantRow>,
-) -> Result<(), Stop>
+) -> Result<(), OutOfMemory>
     ensures declares { OnOk result (Declares
         (rows_words k.Const constant_row_words
         (rows_in scopes.old.spellings.now (constant_row_in scopes.old.spellings.now) rows.now))
@@ -72,7 +71,7 @@ fn constant_row(
     scopes: &mut Scopes<'_>,
     noted: &mut Option<Fault>,
     row: &ConstantRow,
-) -> Result<(), Stop>
+) -> Result<(), OutOfMemory>
     ensures declares { OnOk result (Declares (constant_row_words (constant_row_in scopes.old.spellings.now row.now))
         (λ outer. spec.constant_row outer (constant_row_in scopes.old.spellings.now row.now))
         scopes.old noted.old scopes.new noted.new) }
@@ -90,7 +89,7 @@ fn constant_entity(
     scopes: &Scopes<'_>,
     noted: &mut Option<Fault>,
     constant: Constant,
-) -> Result<Entity, Stop>
+) -> Result<Entity, OutOfMemory>
     ensures value { IfOk result (λ entity. entity_view entity ≡ constant_meant
         (form.constant_of (scopes_view scopes.now) (constant_in scopes.now.spellings.now constant)).value) }
     ensures notes { OnOk result (NotesIf (IsClear (scopes_view scopes.now))
@@ -122,7 +121,7 @@ pub(crate) fn types_of(
     scopes: &mut Scopes<'_>,
     noted: &mut Option<Fault>,
     rows: Option<&Rows<TypeRow>>,
-) -> Result<(), Stop>
+) -> Result<(), OutOfMemory>
     ensures declares { OnOk result (Declares
         (words_if (rows_words k.Type type_row_words)
         (if_there (rows_in scopes.old.spellings.now (type_row_in scopes.old.spellings.now))
@@ -144,7 +143,7 @@ fn type_rows(
     scopes: &mut Scopes<'_>,
     noted: &mut Option<Fault>,
     rows: &Rows<TypeRow>,
-) -> Result<(), Stop>
+) -> Result<(), OutOfMemory>
     ensures declares { OnOk result (Declares
         (rows_words k.Type type_row_words
         (rows_in scopes.old.spellings.now (type_row_in scopes.old.spellings.now) rows.now))
@@ -161,7 +160,11 @@ fn type_rows(
 }
 
 // Declares a type.
-fn type_row(scopes: &mut Scopes<'_>, noted: &mut Option<Fault>, row: &TypeRow) -> Result<(), Stop>
+fn type_row(
+    scopes: &mut Scopes<'_>,
+    noted: &mut Option<Fault>,
+    row: &TypeRow,
+) -> Result<(), OutOfMemory>
     ensures declares { OnOk result (Declares (type_row_words (type_row_in scopes.old.spellings.now row.now))
         (λ outer. spec.type_row outer (type_row_in scopes.old.spellings.now row.now))
         scopes.old noted.old scopes.new noted.new) }
@@ -180,7 +183,7 @@ fn type_entity(
     scopes: &mut Scopes<'_>,
     noted: &mut Option<Fault>,
     written: &TypeForm,
-) -> Result<Entity, Stop>
+) -> Result<Entity, OutOfMemory>
     ensures value { IfOk result (λ entity. (s : name.Scopes) → Agrees s (scopes_view scopes.old)
         → entity_view entity ≡ type_meant
         (form.form_of s (table_view scopes.old.spellings.now scopes.old.types)

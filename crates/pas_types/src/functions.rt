@@ -22,7 +22,6 @@ ghost use Rattle.pas_types.specs.Expressions as spec;
 ghost use Rattle.pas_types.specs.NameViews.{entity_view};
 ghost use Rattle.pas_types.specs.ScopeViews.{scopes_view, IsClear};
 ghost use Rattle.pas_types.specs.inner.Answers.{end_in, EndsAs, Answers, FailsBy, StandsAs, Stands};
-ghost use Rattle.pas_types.specs.inner.ExpressionAnswers.{SettlesBefore};
 ghost use Rattle.pas_types.specs.TypeForms.{char_in, undoubled};
 ghost use Rattle.pas_types.specs.inner.Arguments.{ShowsFirst, first_name_shows, taken_by, taken_as, passing_in};
 ghost use Rattle.pas_types.specs.inner.Arguments.{plainly, passing_part, called_part, sole_part, is_asked_of};
@@ -492,23 +491,6 @@ pub(crate) fn is_file(scopes: &Scopes<'_>, value: &Value) -> bool
         Value::Read(place) => scopes.types.is_file(place.get().pas_type()),
         _ => false,
     }
-}
-
-// The file that a value is, where the token behind it stands in this line.
-pub(crate) fn file_only(
-    scopes: &Scopes<'_>,
-    found: Judged<Value>,
-    behind: u32,
-) -> Result<Boxed<Place>, Stop>
-    ensures { (words : List Word) (part : SpecJudged SpecValue)
-        → EndsAs words part (value_view found.value) (end_in found.end)
-        → SettlesBefore behind words (checked (spec.file_only (scopes_view scopes.now).outer.types) part)
-        (λ place. typed.read (place_view place)) result }
-{
-    let line = found.end.line;
-    let is_fit = is_file(scopes, &found.value);
-    let value = found.noted(is_fit, WRONG_TYPE).before(behind)?;
-    place_alone(value, line)
 }
 
 // Why an expression is refused that is one too many: its first token shows it, unless it shows a lower fault.

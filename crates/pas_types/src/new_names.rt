@@ -4,7 +4,7 @@ ghost use Rattle.pas_syntax.specs.Views.{spelled_in, ident_in, separated_in};
 ghost use Rattle.pas_types.specs.Scopes as spec;
 ghost use Rattle.pas_types.specs.Scopes.{contains, spellings_of};
 ghost use Rattle.pas_types.specs.ScopeViews.{scopes_view};
-ghost use Rattle.pas_types.specs.inner.NameAnswers.{taken_in, IsNewName, AreNewNames};
+ghost use Rattle.pas_types.specs.inner.NameAnswers.{taken_in, IsNewName, AreNewNames, AreNew};
 
 use crate::name_sets::NameSet;
 use crate::scopes::Scopes;
@@ -61,6 +61,8 @@ pub(crate) fn new_names<'p>(
 ) -> Result<(), Stop>
     ensures answer { AreNewNames (taken_in (scopes_view scopes.now) region ++ before.old)
         (separated_in (ident_in scopes.now.spellings.now) idents.now) result }
+    ensures new { OnOk result (AreNew (taken_in (scopes_view scopes.now) region ++ before.old)
+        (spellings_of (separated_in (ident_in scopes.now.spellings.now) idents.now))) }
     ensures ok { OnOk result (before.new
         ≡ before.old ++ spellings_of (separated_in (ident_in scopes.now.spellings.now) idents.now)) }
 {

@@ -1,17 +1,13 @@
 -- What functions on expressions answer.
-use Rattle.std.specs.Prelude.{◌≡◌, ℕ, List, [], ◌∷◌, Option, Some, None, Result, Ok, Err}
+use Rattle.std.specs.Prelude.{◌≡◌, [], ◌∷◌, Option, Some, None}
 use Rattle.wb_base.specs.declared.faults.TheConstants.{UNKNOWN_NAME}
 use Rattle.pas_tokens.specs.Cutting.{wrong}
-use Rattle.pas_syntax.specs.Words.{Word}
 use Rattle.pas_typed.specs.declared.typed.Part as code_part
 use Rattle.pas_typed.specs.Typed as typed
 use Rattle.pas_typed.specs.Typed.{Variable, Value, Place, Passed}
 use Rattle.pas_typed.specs.TypedViews.{part_view}
-use Rattle.pas_types.specs.declared.stop.Stop.{Stop}
 use Rattle.pas_types.specs.Marks.{quiet, joined, Judged, judged, means, refuses, known}
 use Rattle.pas_types.specs.TypeForms.{ConstantValue}
-use Rattle.pas_types.specs.inner.Stopping.{stop_before}
-use Rattle.pas_types.specs.inner.Answers.{Means, ShowsBy}
 
 -- an expression between parentheses
 abbrev pub parenthesized_of : Judged Value → Judged Value
@@ -20,12 +16,6 @@ parenthesized_of part = judged (joined (quiet ∷ part.marks ∷ quiet ∷ [])) 
 -- a string of one byte as a value
 abbrev pub char_value : Judged ConstantValue → Judged Value
 char_value part = judged part.marks (known (λ text. typed.constant text.base text.value) part.value)
-
--- what is answered of a part behind which a word in this line stands, which shows what is missing before it
-abbrev pub SettlesBefore : {X A : Type 0} → ℕ → List Word → Judged A → (X → A) → Result X Stop → Type 0
-SettlesBefore line words part view (Ok found) = Means words part (view found)
-SettlesBefore line words part view (Err why) =
-    (other : Stop) × (why ≡ stop_before line other) × ShowsBy words part.marks other
 
 -- what a part makes of a place, or that there is none of its name
 abbrev pub Finds : (Place → Judged Place) → Option code_part.Part → Type 0

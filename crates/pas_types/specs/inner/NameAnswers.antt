@@ -1,5 +1,5 @@
 -- What the names that are declared together answer.
-use Rattle.std.specs.Prelude.{◌≡◌, ℕ, false, not, List, [], ◌∷◌, Result, Ok, Err}
+use Rattle.std.specs.Prelude.{◌≡◌, ⊤, ℕ, false, not, List, [], ◌∷◌, ◌++◌, Result, Ok, Err}
 use Rattle.wb_base.specs.declared.faults.TheConstants.{DUPLICATE_NAME}
 use Rattle.pas_tokens.specs.Cutting.{Wrong, wrong}
 use Rattle.pas_syntax.specs.Tree.{Ident, Idents}
@@ -31,3 +31,8 @@ IsNewName taken ident (Err why) = (n : ℕ) → FailsBy (name_at n ident ∷ [])
 abbrev pub AreNewNames : List (List ℕ) → Idents → Result (Unit {0}) Stop → Type 0
 AreNewNames taken idents (Ok done) = (n : ℕ) → IsQuiet (idents_words n idents) (new_names taken idents) false
 AreNewNames taken idents (Err why) = (n : ℕ) → FailsBy (idents_words n idents) (new_names taken idents) why
+
+-- names that are new one after another, behind others
+abbrev pub AreNew : List (List ℕ) → List (List ℕ) → Type 0
+AreNew taken [] = ⊤
+AreNew taken (name ∷ names) = (new_faults taken name ≡ []) × AreNew (taken ++ name ∷ []) names

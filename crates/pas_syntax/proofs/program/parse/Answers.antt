@@ -11,3 +11,6 @@ pub returns-clause-ok : goal.returns-clause-ok
 returns-clause-ok c =
     subst (λ spellings. Means c.args.text.now (program_in spellings c.in_ok-tree.tree)) c.bytes.ensures
     c.in_ok-tree.ensures.ok
+
+pub invariant_of-result : goal.invariant_of-result
+invariant_of-result c = (c.args.text.now, returns-clause-ok c)

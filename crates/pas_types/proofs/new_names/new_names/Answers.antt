@@ -1,13 +1,13 @@
-use Rattle.std.proofs.Common.{subst, List, ◌++◌, Err, Ok}
+use Rattle.std.proofs.Common.{subst, List, ◌∷◌, ◌++◌, Err, Ok}
 use Rattle.std.proofs.lemmas.Result.{err_from_is_err_and}
 use Rattle.pas_syntax.specs.declared.tree.Ident.{Ident as CodeIdent}
 use Rattle.pas_syntax.specs.declared.tree.Behind.{Behind as CodeBehind}
 use Rattle.pas_syntax.specs.Tree.{Ident}
 use Rattle.pas_syntax.specs.Views.{ident_in, separated_in}
 use Rattle.pas_types.specs.ScopeViews.{scopes_view}
-use Rattle.pas_types.specs.inner.NameAnswers.{taken_in, AreNewNames}
-use Rattle.pas_types.proofs.NewNameLemmas.{all_names, seen_behind, unbegun, name_more}
-use Rattle.pas_types.proofs.NewNameLemmas.{name_stopped, names_ended, new_names_stop}
+use Rattle.pas_types.specs.inner.NameAnswers.{taken_in, AreNewNames, AreNew}
+use Rattle.pas_types.proofs.NewNameLemmas.{all_names, seen_behind, unbegun, name_more, items, spelled}
+use Rattle.pas_types.proofs.NewNameLemmas.{name_stopped, names_ended, names_new, new_names_stop}
 use Rattle.pas_types.proofs.new_names.new_names.Goals as goal
 
 abbrev no_name : CodeBehind CodeIdent
@@ -53,4 +53,14 @@ returns-clause-answer c =
     subst (λ (more : List (CodeBehind CodeIdent)). AreNewNames (around ++ c.args.before.now)
     (all_names first (seen_behind spellings more)) (Ok tt)) c.as_slice-behind-items.ensures
     (names_ended around c.args.before.now first spellings c.as_slice-behind-items.result.now
+    c.loop-behind.behind-index c.loop-behind.before c.loop-behind-test.false c.loop-behind.invariant)
+
+pub returns-clause-new : goal.returns-clause-new
+returns-clause-new c =
+    let spellings = c.args.scopes.now.spellings.now in
+    let around = taken_in (scopes_view c.args.scopes.now) c.args.region in
+    let first : Ident = ident_in spellings c.args.idents.now.first in
+    subst (λ (more : List (CodeBehind CodeIdent)). AreNew (around ++ c.args.before.now)
+    (first.name ∷ spelled (items (seen_behind spellings more)))) c.as_slice-behind-items.ensures
+    (names_new around c.args.before.now first spellings c.as_slice-behind-items.result.now
     c.loop-behind.behind-index c.loop-behind.before c.loop-behind-test.false c.loop-behind.invariant)

@@ -22,6 +22,7 @@ use Rattle.pas_types.proofs.transfers.printed_item.Goals as goal
 pub returns-in_err-found : goal.returns-in_err-found
 returns-in_err-found c clear n =
     let scopes = scopes_view c.args.scopes.now in
+    let make = item_of scopes.outer.types in
     let spellings = c.args.scopes.now.spellings.now in
     let argument = argument_in spellings c.args.argument.now in
     let words : List Word = expr_words n 0 argument.value in
@@ -29,14 +30,16 @@ returns-in_err-found c clear n =
     let value : Judged Value = value_of scopes argument.value in
     let part : Judged Value = checked demand value in
     let why = c.in_err-found.field-0.0 in
-    stands_stop (printed_words scopes n words part argument.width) (printed scopes n words part argument.width)
+    stands_stop (printed_words scopes n words part make argument.width)
+    (printed scopes n words part make argument.width)
     (item_view spellings) why c.from_residual.result (err_from_is_err_and _ c.from_residual.ensures.1)
-    (printed_fails scopes n words part argument.width why
+    (printed_fails scopes n words part make argument.width why
     (stops_fails words part why (checked_stops_by words demand value why (c.in_err-found.ensures clear n 0))))
 
 pub returns-in_err-found-2 : goal.returns-in_err-found-2
 returns-in_err-found-2 c clear n =
     let scopes = scopes_view c.args.scopes.now in
+    let make = item_of scopes.outer.types in
     let spellings = c.args.scopes.now.spellings.now in
     let argument = argument_in spellings c.args.argument.now in
     let words : List Word = expr_words n 0 argument.value in
@@ -44,15 +47,17 @@ returns-in_err-found-2 c clear n =
     let value : Judged Value = value_of scopes argument.value in
     let part : Judged Value = checked demand value in
     let why = c.in_err-found-2.field-0.0 in
-    stands_stop (printed_words scopes n words part argument.width) (printed scopes n words part argument.width)
+    stands_stop (printed_words scopes n words part make argument.width)
+    (printed scopes n words part make argument.width)
     (item_view spellings) why c.from_residual-in_err-found-2.result
     (err_from_is_err_and _ c.from_residual-in_err-found-2.ensures.1)
-    (printed_fails scopes n words part argument.width why
+    (printed_fails scopes n words part make argument.width why
     (c.in_err-found-2.ensures words value (c.in_ok-found.ensures clear n 0)))
 
 pub returns-in_err-value-in-Some : goal.returns-in_err-value-in-Some
 returns-in_err-value-in-Some c clear n =
     let scopes = scopes_view c.args.scopes.now in
+    let make = item_of scopes.outer.types in
     let spellings = c.args.scopes.now.spellings.now in
     let argument = argument_in spellings c.args.argument.now in
     let words : List Word = expr_words n 0 argument.value in
@@ -64,18 +69,19 @@ returns-in_err-value-in-Some c clear n =
     let stands = c.in_ok-found-2.ensures words value (c.in_ok-found.ensures clear n 0) in
     let why = c.in_err-value-in-Some.field-0.0 in
     subst (λ (given : Option (CodeBehind code_expr.Expr)).
-    Stands (printed_words scopes n words part (if_there (behind_in (expr_in spellings)) given))
-    (printed scopes n words part (if_there (behind_in (expr_in spellings)) given)) (item_view spellings)
+    Stands (printed_words scopes n words part make (if_there (behind_in (expr_in spellings)) given))
+    (printed scopes n words part make (if_there (behind_in (expr_in spellings)) given)) (item_view spellings)
     c.from_residual-in_err-value-in-Some.result) (sym c.in-Some.is)
-    (stands_stop (printed_words scopes n words part (Some width)) (printed scopes n words part (Some width))
+    (stands_stop (printed_words scopes n words part make (Some width)) (printed scopes n words part make (Some width))
     (item_view spellings) why c.from_residual-in_err-value-in-Some.result
     (err_from_is_err_and _ c.from_residual-in_err-value-in-Some.ensures.1)
-    (printed_unsettled scopes n words part width (value_view found.value) (end_in found.end) why stands found.value
+    (printed_unsettled scopes n words part make width (value_view found.value) (end_in found.end) why stands found.value
     c.in_err-value-in-Some.ensures))
 
 pub returns-in_err-given-in-Some : goal.returns-in_err-given-in-Some
 returns-in_err-given-in-Some c clear n =
     let scopes = scopes_view c.args.scopes.now in
+    let make = item_of scopes.outer.types in
     let spellings = c.args.scopes.now.spellings.now in
     let argument = argument_in spellings c.args.argument.now in
     let words : List Word = expr_words n 0 argument.value in
@@ -90,18 +96,19 @@ returns-in_err-given-in-Some c clear n =
     stands.lawful c.in_ok-value-in-Some.ensures in
     let why = c.in_err-given-in-Some.field-0.0 in
     subst (λ (given : Option (CodeBehind code_expr.Expr)).
-    Stands (printed_words scopes n words part (if_there (behind_in (expr_in spellings)) given))
-    (printed scopes n words part (if_there (behind_in (expr_in spellings)) given)) (item_view spellings)
+    Stands (printed_words scopes n words part make (if_there (behind_in (expr_in spellings)) given))
+    (printed scopes n words part make (if_there (behind_in (expr_in spellings)) given)) (item_view spellings)
     c.from_residual-in_err-given-in-Some.result) (sym c.in-Some.is)
-    (stands_stop (printed_words scopes n words part (Some width)) (printed scopes n words part (Some width))
+    (stands_stop (printed_words scopes n words part make (Some width)) (printed scopes n words part make (Some width))
     (item_view spellings) why c.from_residual-in_err-given-in-Some.result
     (err_from_is_err_and _ c.from_residual-in_err-given-in-Some.ensures.1)
-    (printed_width scopes n words part width (value_view found.value) (end_in found.end) why stands settled.1
+    (printed_width scopes n words part make width (value_view found.value) (end_in found.end) why stands settled.1
     (c.in_err-given-in-Some.ensures clear n)))
 
 pub returns-in_ok-given-in-Some : goal.returns-in_ok-given-in-Some
 returns-in_ok-given-in-Some c clear n =
     let scopes = scopes_view c.args.scopes.now in
+    let make = item_of scopes.outer.types in
     let spellings = c.args.scopes.now.spellings.now in
     let argument = argument_in spellings c.args.argument.now in
     let words : List Word = expr_words n 0 argument.value in
@@ -117,18 +124,19 @@ returns-in_ok-given-in-Some c clear n =
     let given = c.in_ok-given-in-Some.given in
     let other = value_view given.value in
     subst (λ (w : Option (CodeBehind code_expr.Expr)).
-    StandsAs (printed_words scopes n words part (if_there (behind_in (expr_in spellings)) w))
-    (printed scopes n words part (if_there (behind_in (expr_in spellings)) w))
+    StandsAs (printed_words scopes n words part make (if_there (behind_in (expr_in spellings)) w))
+    (printed scopes n words part make (if_there (behind_in (expr_in spellings)) w))
     (item_view spellings c.item_as.result) (end_in given.end)) (sym c.in-Some.is)
-    (subst (λ (item : Item). StandsAs (printed_words scopes n words part (Some width))
-    (printed scopes n words part (Some width)) item (end_in given.end))
+    (subst (λ (item : Item). StandsAs (printed_words scopes n words part make (Some width))
+    (printed scopes n words part make (Some width)) item (end_in given.end))
     (sym (c.item_as.ensures ∙ ap (λ (v : _). item_of scopes.outer.types (value_view v) (Some other)) settled.0))
-    (printed_stands scopes n words part width (value_view found.value) other (end_in found.end) (end_in given.end)
+    (printed_stands scopes n words part make width (value_view found.value) other (end_in found.end) (end_in given.end)
     stands settled.1 (c.in_ok-given-in-Some.ensures clear n)))
 
 pub returns-in-None : goal.returns-in-None
 returns-in-None c clear n =
     let scopes = scopes_view c.args.scopes.now in
+    let make = item_of scopes.outer.types in
     let spellings = c.args.scopes.now.spellings.now in
     let argument = argument_in spellings c.args.argument.now in
     let words : List Word = expr_words n 0 argument.value in
@@ -138,9 +146,10 @@ returns-in-None c clear n =
     let found = c.in_ok-found-2.found in
     let stands = c.in_ok-found-2.ensures words value (c.in_ok-found.ensures clear n 0) in
     subst (λ (w : Option (CodeBehind code_expr.Expr)).
-    StandsAs (printed_words scopes n words part (if_there (behind_in (expr_in spellings)) w))
-    (printed scopes n words part (if_there (behind_in (expr_in spellings)) w))
+    StandsAs (printed_words scopes n words part make (if_there (behind_in (expr_in spellings)) w))
+    (printed scopes n words part make (if_there (behind_in (expr_in spellings)) w))
     (item_view spellings c.item_as-in-None.result) (end_in found.end)) (sym c.in-None.is)
-    (subst (λ (item : Item). StandsAs (printed_words scopes n words part None) (printed scopes n words part None) item
+    (subst (λ (item : Item). StandsAs (printed_words scopes n words part make None)
+    (printed scopes n words part make None) item
     (end_in found.end)) (sym c.item_as-in-None.ensures)
-    (printed_alone scopes n words part (value_view found.value) (end_in found.end) stands))
+    (printed_alone scopes n words part make (value_view found.value) (end_in found.end) stands))

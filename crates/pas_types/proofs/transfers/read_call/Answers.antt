@@ -1,0 +1,58 @@
+use Rattle.std.proofs.Common.{subst, sym, ◌+◌, ◌∷◌, Option}
+use Rattle.std.proofs.lemmas.Result.{err_from_is_err_and}
+use Rattle.pas_syntax.specs.Views.{expr_in}
+use Rattle.pas_syntax.specs.Words.{expr_words}
+use Rattle.pas_typed.specs.declared.typed.Place as code_place
+use Rattle.pas_typed.specs.Typed.{Statement}
+use Rattle.pas_typed.specs.TypedViews.{statement_view}
+use Rattle.pas_types.specs.declared.judged.Judged.{Judged as CodeJudged}
+use Rattle.pas_types.specs.Marks.{Judged}
+use Rattle.pas_types.specs.Calls.{procedure_of}
+use Rattle.pas_types.specs.Expressions.{value_of}
+use Rattle.pas_types.specs.ScopeViews.{scopes_view}
+use Rattle.pas_types.specs.inner.Answers.{Settles, ShowsBy}
+use Rattle.pas_types.specs.inner.Transfers.{reading, IsFileAlone}
+use Rattle.pas_types.proofs.SettleLemmas.{settles_stop}
+use Rattle.pas_types.proofs.TransferParts.{call_words, first_actual, others, reading_seen}
+use Rattle.pas_types.proofs.transfers.read_call.Goals as goal
+
+pub returns-in_err-file : goal.returns-in_err-file
+returns-in_err-file c clear n word at_line =
+    let scopes = scopes_view c.args.scopes.now in
+    let spellings = c.args.scopes.now.spellings.now in
+    let arguments = c.args.arguments.now in
+    let words = call_words scopes spellings n word arguments in
+    let actuals = first_actual scopes spellings n word arguments ∷ others scopes spellings n word arguments in
+    let part : Judged Statement = procedure_of scopes (reading c.args.extent) actuals in
+    let why = c.in_err-file.field-0.0 in
+    settles_stop words part (statement_view spellings) why c.from_residual.result
+    (err_from_is_err_and _ c.from_residual.ensures.1)
+    (subst (ShowsBy words part.marks) (sym (c.in_err-file.ensures clear (n + 1))) tt)
+
+pub returns-in-Some : goal.returns-in-Some
+returns-in-Some c clear n word at_line =
+    let scopes = scopes_view c.args.scopes.now in
+    let spellings = c.args.scopes.now.spellings.now in
+    let arguments = c.args.arguments.now in
+    let words = call_words scopes spellings n word arguments in
+    let actuals = first_actual scopes spellings n word arguments ∷ others scopes spellings n word arguments in
+    let expr = expr_in spellings arguments.items.first.value in
+    subst (λ (part : Judged Statement). Settles words part (statement_view spellings) c.read_named.result)
+    (sym (reading_seen scopes c.args.extent actuals))
+    (c.read_named.ensures clear n word
+    (subst (λ (found : Option (CodeJudged code_place.Place)). IsFileAlone scopes.outer.types
+    (expr_words (n + 1) 0 expr) (value_of scopes expr) found) c.in-Some.is (c.in_ok-file.ensures clear (n + 1))))
+
+pub returns-in-None : goal.returns-in-None
+returns-in-None c clear n word at_line =
+    let scopes = scopes_view c.args.scopes.now in
+    let spellings = c.args.scopes.now.spellings.now in
+    let arguments = c.args.arguments.now in
+    let words = call_words scopes spellings n word arguments in
+    let actuals = first_actual scopes spellings n word arguments ∷ others scopes spellings n word arguments in
+    let expr = expr_in spellings arguments.items.first.value in
+    subst (λ (part : Judged Statement). Settles words part (statement_view spellings) c.read_standard.result)
+    (sym (reading_seen scopes c.args.extent actuals))
+    (c.read_standard.ensures clear n word at_line
+    (subst (λ (found : Option (CodeJudged code_place.Place)). IsFileAlone scopes.outer.types
+    (expr_words (n + 1) 0 expr) (value_of scopes expr) found) c.in-None.is (c.in_ok-file.ensures clear (n + 1))))

@@ -1,0 +1,275 @@
+use Rattle.std.proofs.Common.{◌≡◌, sym, ap, subst, ◌∙◌, ◌+◌, true, false, List, ◌∷◌, map, Option, Some}
+use Rattle.std.specs.Prelude.{is_some}
+use Rattle.std.proofs.lemmas.Result.{err_from_is_err_and}
+use Rattle.pas_syntax.specs.Words.{Word}
+use Rattle.pas_typed.specs.Types.{PasType, component_of}
+use Rattle.pas_typed.specs.Typed.{Value, Place, Statement, read, writes_bytes}
+use Rattle.pas_typed.specs.TypeOf.{type_of_place}
+use Rattle.pas_typed.specs.TypedViews.{value_view, place_view, statement_view}
+use Rattle.pas_types.specs.Marks.{Judged}
+use Rattle.pas_types.specs.Calls.{demand_on_file, without_width, transfer_by, output, items_alone, is_text, write_items}
+use Rattle.pas_types.specs.ScopeViews.{scopes_view}
+use Rattle.pas_types.specs.inner.Answers.{Ending, end_in, Settles, IsQuiet}
+use Rattle.pas_types.specs.inner.Listed.{Gathered, items_behind}
+use Rattle.pas_types.proofs.SettleLemmas.{settles_stop}
+use Rattle.pas_types.proofs.ArgumentLemmas.{stands_quiet}
+use Rattle.pas_types.proofs.CallAnswers.{settled_is, unsettled_is}
+use Rattle.pas_types.proofs.FileLemmas.{file_component}
+use Rattle.pas_types.proofs.TransferItems.{bytes_many, bytes_item}
+use Rattle.pas_types.proofs.PlaceLemmas.{some_there}
+use Rattle.pas_types.proofs.TransferParts.{bytes_named, closing, named}
+use Rattle.pas_types.specs.inner.Listed.{FailsWithin}
+use Rattle.pas_types.specs.inner.Transfers.{component_of_item}
+use Rattle.pas_types.proofs.TransferParts.{call_words, first_actual, others, first_words, named_part}
+use Rattle.pas_types.proofs.TransferParts.{named_fails, named_short, named_within, named_few, named_means, named_start}
+use Rattle.pas_types.proofs.TransferParts.{first_named, made_settles, met_known, same_place, short_shows}
+use Rattle.pas_types.proofs.transfers.write_components.Goals as goal
+
+pub returns-in_err-file : goal.returns-in_err-file
+returns-in_err-file c clear n word h bytes =
+    let scopes = scopes_view c.args.scopes.now in
+    let spellings = c.args.scopes.now.spellings.now in
+    let table = scopes.outer.types in
+    let look = bytes_item scopes spellings (n + 1) in
+    let arguments = c.args.arguments.now in
+    let words = call_words scopes spellings n word arguments in
+    let actuals = first_actual scopes spellings n word arguments ∷ others scopes spellings n word arguments in
+    let place : Place = place_view c.args.file.value in
+    let why = c.in_err-file.field-0.0 in
+    let whole = λ (found : Option Place). write_items table (transfer_by items_alone (output scopes) actuals found)
+    (transfer_by items_alone (output scopes) actuals found).file in
+    let inner : Judged Statement =
+    named scopes spellings n word arguments items_alone look (bytes_many scopes spellings (n + 1)) writes_bytes
+    value_view place in
+    subst (λ (found : Option Place). Settles words (whole found) (statement_view spellings) c.from_residual.result)
+    (sym h.0)
+    (subst (λ (part : Judged Statement). Settles words part (statement_view spellings)
+    c.from_residual.result)
+    (sym (bytes_named scopes spellings (n + 1) place (first_actual scopes spellings n word arguments)
+    (others scopes spellings n word arguments) bytes))
+    (settles_stop words inner (statement_view spellings) why c.from_residual.result
+    (err_from_is_err_and _ c.from_residual.ensures.1)
+    (named_fails scopes spellings n word arguments items_alone look (bytes_many scopes spellings (n + 1))
+    writes_bytes value_view place why
+    (c.in_err-file.ensures scopes spellings (n + 1) h.1))))
+
+pub returns-in_err-file-2 : goal.returns-in_err-file-2
+returns-in_err-file-2 c clear n word h bytes =
+    let scopes = scopes_view c.args.scopes.now in
+    let spellings = c.args.scopes.now.spellings.now in
+    let table = scopes.outer.types in
+    let look = bytes_item scopes spellings (n + 1) in
+    let arguments = c.args.arguments.now in
+    let words = call_words scopes spellings n word arguments in
+    let actuals = first_actual scopes spellings n word arguments ∷ others scopes spellings n word arguments in
+    let place : Place = place_view c.args.file.value in
+    let why = c.in_err-file-2.field-0.0 in
+    let whole = λ (found : Option Place). write_items table (transfer_by items_alone (output scopes) actuals found)
+    (transfer_by items_alone (output scopes) actuals found).file in
+    let found = c.in_ok-file.file in
+    let end : Ending = end_in found.end in
+    let stands = c.in_ok-file.ensures scopes spellings (n + 1) h.1 in
+    let short = unsettled_is end.line c.line_behind.result end.refusal end.is_short found.value why stands.lawful
+    c.in_err-file-2.ensures in
+    let part : Judged Value =
+    named_part scopes spellings n word arguments items_alone look (bytes_many scopes spellings (n + 1)) writes_bytes
+    value_view place in
+    let first : List Word = first_words scopes spellings n word arguments in
+    let inner : Judged Statement =
+    named scopes spellings n word arguments items_alone look (bytes_many scopes spellings (n + 1)) writes_bytes
+    value_view place in
+    subst (λ (found : Option Place). Settles words (whole found) (statement_view spellings)
+    c.from_residual-in_err-file-2.result) (sym h.0)
+    (subst (λ (part : Judged Statement). Settles words part (statement_view spellings)
+    c.from_residual-in_err-file-2.result)
+    (sym (bytes_named scopes spellings (n + 1) place (first_actual scopes spellings n word arguments)
+    (others scopes spellings n word arguments) bytes))
+    (settles_stop words inner (statement_view spellings) why c.from_residual-in_err-file-2.result
+    (err_from_is_err_and _ c.from_residual-in_err-file-2.ensures.1)
+    (short_shows words inner.marks c.line_behind.result arguments.closed arguments.items.more why short.1
+    c.line_behind.ensures
+    (named_short scopes spellings n word arguments items_alone look (bytes_many scopes spellings (n + 1))
+    writes_bytes value_view place
+    (subst (IsQuiet first part.marks) short.0
+    (stands_quiet first part (read (place_view found.value)) end stands))))))
+
+pub returns-in_err-values : goal.returns-in_err-values
+returns-in_err-values c clear n word h bytes =
+    let scopes = scopes_view c.args.scopes.now in
+    let spellings = c.args.scopes.now.spellings.now in
+    let table = scopes.outer.types in
+    let look = bytes_item scopes spellings (n + 1) in
+    let arguments = c.args.arguments.now in
+    let words = call_words scopes spellings n word arguments in
+    let actuals = first_actual scopes spellings n word arguments ∷ others scopes spellings n word arguments in
+    let whole = λ (found : Option Place). write_items table (transfer_by items_alone (output scopes) actuals found)
+    (transfer_by items_alone (output scopes) actuals found).file in
+    let found = c.in_ok-file.file in
+    let place : Place = place_view c.in_ok-file-2.file in
+    let value : Value = read (place_view found.value) in
+    let end : Ending = end_in found.end in
+    let stands = c.in_ok-file.ensures scopes spellings (n + 1) h.1 in
+    let settled = settled_is end.line c.line_behind.result end.refusal end.is_short found.value c.in_ok-file-2.file
+    stands.lawful c.in_ok-file-2.ensures in
+    let same : place_view c.args.file.value ≡ place =
+    same_place (first_actual scopes spellings n word arguments).value.value (place_view c.args.file.value)
+    (place_view found.value) h.1.known
+    (met_known (demand_on_file items_alone) (without_width (first_actual scopes spellings n word arguments)) value
+    stands.ends.known) ∙ ap place_view (sym settled.0) in
+    let file = h.0 ∙ ap (λ (found : Place). Some found) same in
+    let part : Judged Value =
+    named_part scopes spellings n word arguments items_alone look (bytes_many scopes spellings (n + 1)) writes_bytes
+    value_view place in
+    let first : List Word = first_words scopes spellings n word arguments in
+    let still : IsQuiet first part.marks false =
+    subst (IsQuiet first part.marks) settled.1 (stands_quiet first part value end stands) in
+    let some : is_some (component_of table (type_of_place place)) ≡ true =
+    file_component table (first_actual scopes spellings n word arguments).value.value place file in
+    let component = some_there (component_of table (type_of_place place)) some in
+    let at_file = subst (λ (type : PasType). component_of table type ≡ Some component.0) c.pas_type.ensures
+    component.1 in
+    let start = named_start scopes spellings n word arguments items_alone look
+    (bytes_many scopes spellings (n + 1)) writes_bytes value_view place value stands.ends.known still in
+    let head = first_named scopes spellings n word arguments items_alone look
+    (bytes_many scopes spellings (n + 1)) writes_bytes value_view place value stands.ends.known still in
+    let why = c.in_err-values.field-0.0 in
+    let inner : Judged Statement =
+    named scopes spellings n word arguments items_alone look (bytes_many scopes spellings (n + 1)) writes_bytes
+    value_view place in
+    subst (λ (found : Option Place). Settles words (whole found) (statement_view spellings)
+    c.from_residual-in_err-values.result) (sym file)
+    (subst (λ (part : Judged Statement). Settles words part (statement_view spellings)
+    c.from_residual-in_err-values.result)
+    (sym (bytes_named scopes spellings (n + 1) place (first_actual scopes spellings n word arguments)
+    (others scopes spellings n word arguments) (subst (λ (found : Place). is_text found ≡ false) same bytes)))
+    (settles_stop words inner (statement_view spellings) why c.from_residual-in_err-values.result
+    (err_from_is_err_and _ c.from_residual-in_err-values.ensures.1)
+    (named_within scopes spellings n word arguments items_alone look (bytes_many scopes spellings (n + 1))
+    writes_bytes value_view place value stands.ends.known still why
+    (subst (λ (found : Option PasType). FailsWithin word head
+    (items_behind scopes spellings (n + 1) (component_of_item table found) arguments.items.more)
+    (closing scopes spellings n word arguments) why) (sym component.1)
+    (c.in_err-values.ensures clear (n + 1) component.0 at_file word head start)))))
+
+pub returns-in_err-some_item : goal.returns-in_err-some_item
+returns-in_err-some_item c clear n word h bytes =
+    let scopes = scopes_view c.args.scopes.now in
+    let spellings = c.args.scopes.now.spellings.now in
+    let table = scopes.outer.types in
+    let look = bytes_item scopes spellings (n + 1) in
+    let arguments = c.args.arguments.now in
+    let words = call_words scopes spellings n word arguments in
+    let actuals = first_actual scopes spellings n word arguments ∷ others scopes spellings n word arguments in
+    let whole = λ (found : Option Place). write_items table (transfer_by items_alone (output scopes) actuals found)
+    (transfer_by items_alone (output scopes) actuals found).file in
+    let found = c.in_ok-file.file in
+    let place : Place = place_view c.in_ok-file-2.file in
+    let value : Value = read (place_view found.value) in
+    let end : Ending = end_in found.end in
+    let stands = c.in_ok-file.ensures scopes spellings (n + 1) h.1 in
+    let settled = settled_is end.line c.line_behind.result end.refusal end.is_short found.value c.in_ok-file-2.file
+    stands.lawful c.in_ok-file-2.ensures in
+    let same : place_view c.args.file.value ≡ place =
+    same_place (first_actual scopes spellings n word arguments).value.value (place_view c.args.file.value)
+    (place_view found.value) h.1.known
+    (met_known (demand_on_file items_alone) (without_width (first_actual scopes spellings n word arguments)) value
+    stands.ends.known) ∙ ap place_view (sym settled.0) in
+    let file = h.0 ∙ ap (λ (found : Place). Some found) same in
+    let part : Judged Value =
+    named_part scopes spellings n word arguments items_alone look (bytes_many scopes spellings (n + 1)) writes_bytes
+    value_view place in
+    let first : List Word = first_words scopes spellings n word arguments in
+    let still : IsQuiet first part.marks false =
+    subst (IsQuiet first part.marks) settled.1 (stands_quiet first part value end stands) in
+    let some : is_some (component_of table (type_of_place place)) ≡ true =
+    file_component table (first_actual scopes spellings n word arguments).value.value place file in
+    let component = some_there (component_of table (type_of_place place)) some in
+    let at_file = subst (λ (type : PasType). component_of table type ≡ Some component.0) c.pas_type.ensures
+    component.1 in
+    let start = named_start scopes spellings n word arguments items_alone look
+    (bytes_many scopes spellings (n + 1)) writes_bytes value_view place value stands.ends.known still in
+    let head = first_named scopes spellings n word arguments items_alone look
+    (bytes_many scopes spellings (n + 1)) writes_bytes value_view place value stands.ends.known still in
+    let values = c.in_ok-values.values in
+    let gathered = subst (λ (before : List Value). Gathered value_view before word head
+    (items_behind scopes spellings (n + 1) (look (Some place)) arguments.items.more) values)
+    (ap (map value_view) c.new.ensures)
+    (subst (λ (found : Option PasType). Gathered value_view (map value_view c.new.result) word head
+    (items_behind scopes spellings (n + 1) (component_of_item table found) arguments.items.more) values)
+    (sym component.1) (c.in_ok-values.ensures clear (n + 1) component.0 at_file word head start)) in
+    let why = c.in_err-some_item.field-0.0 in
+    let inner : Judged Statement =
+    named scopes spellings n word arguments items_alone look (bytes_many scopes spellings (n + 1)) writes_bytes
+    value_view place in
+    subst (λ (found : Option Place). Settles words (whole found) (statement_view spellings)
+    c.from_residual-in_err-some_item.result) (sym file)
+    (subst (λ (part : Judged Statement). Settles words part (statement_view spellings)
+    c.from_residual-in_err-some_item.result)
+    (sym (bytes_named scopes spellings (n + 1) place (first_actual scopes spellings n word arguments)
+    (others scopes spellings n word arguments) (subst (λ (found : Place). is_text found ≡ false) same bytes)))
+    (settles_stop words inner (statement_view spellings) why c.from_residual-in_err-some_item.result
+    (err_from_is_err_and _ c.from_residual-in_err-some_item.ensures.1)
+    (named_few scopes spellings n word arguments items_alone look (bytes_many scopes spellings (n + 1)) writes_bytes
+    value_view place value stands.ends.known still values gathered why
+    (c.in_err-some_item.ensures scopes spellings))))
+
+pub returns : goal.returns
+returns c clear n word h bytes =
+    let scopes = scopes_view c.args.scopes.now in
+    let spellings = c.args.scopes.now.spellings.now in
+    let table = scopes.outer.types in
+    let look = bytes_item scopes spellings (n + 1) in
+    let arguments = c.args.arguments.now in
+    let words = call_words scopes spellings n word arguments in
+    let actuals = first_actual scopes spellings n word arguments ∷ others scopes spellings n word arguments in
+    let whole = λ (found : Option Place). write_items table (transfer_by items_alone (output scopes) actuals found)
+    (transfer_by items_alone (output scopes) actuals found).file in
+    let found = c.in_ok-file.file in
+    let place : Place = place_view c.in_ok-file-2.file in
+    let value : Value = read (place_view found.value) in
+    let end : Ending = end_in found.end in
+    let stands = c.in_ok-file.ensures scopes spellings (n + 1) h.1 in
+    let settled = settled_is end.line c.line_behind.result end.refusal end.is_short found.value c.in_ok-file-2.file
+    stands.lawful c.in_ok-file-2.ensures in
+    let same : place_view c.args.file.value ≡ place =
+    same_place (first_actual scopes spellings n word arguments).value.value (place_view c.args.file.value)
+    (place_view found.value) h.1.known
+    (met_known (demand_on_file items_alone) (without_width (first_actual scopes spellings n word arguments)) value
+    stands.ends.known) ∙ ap place_view (sym settled.0) in
+    let file = h.0 ∙ ap (λ (found : Place). Some found) same in
+    let part : Judged Value =
+    named_part scopes spellings n word arguments items_alone look (bytes_many scopes spellings (n + 1)) writes_bytes
+    value_view place in
+    let first : List Word = first_words scopes spellings n word arguments in
+    let still : IsQuiet first part.marks false =
+    subst (IsQuiet first part.marks) settled.1 (stands_quiet first part value end stands) in
+    let some : is_some (component_of table (type_of_place place)) ≡ true =
+    file_component table (first_actual scopes spellings n word arguments).value.value place file in
+    let component = some_there (component_of table (type_of_place place)) some in
+    let at_file = subst (λ (type : PasType). component_of table type ≡ Some component.0) c.pas_type.ensures
+    component.1 in
+    let start = named_start scopes spellings n word arguments items_alone look
+    (bytes_many scopes spellings (n + 1)) writes_bytes value_view place value stands.ends.known still in
+    let head = first_named scopes spellings n word arguments items_alone look
+    (bytes_many scopes spellings (n + 1)) writes_bytes value_view place value stands.ends.known still in
+    let values = c.in_ok-values.values in
+    let gathered = subst (λ (before : List Value). Gathered value_view before word head
+    (items_behind scopes spellings (n + 1) (look (Some place)) arguments.items.more) values)
+    (ap (map value_view) c.new.ensures)
+    (subst (λ (found : Option PasType). Gathered value_view (map value_view c.new.result) word head
+    (items_behind scopes spellings (n + 1) (component_of_item table found) arguments.items.more) values)
+    (sym component.1) (c.in_ok-values.ensures clear (n + 1) component.0 at_file word head start)) in
+    let inner : Judged Statement =
+    named scopes spellings n word arguments items_alone look (bytes_many scopes spellings (n + 1)) writes_bytes
+    value_view place in
+    subst (λ (found : Option Place). Settles words (whole found) (statement_view spellings) c.writes_components.result)
+    (sym file)
+    (subst (λ (part : Judged Statement). Settles words part (statement_view spellings)
+    c.writes_components.result)
+    (sym (bytes_named scopes spellings (n + 1) place (first_actual scopes spellings n word arguments)
+    (others scopes spellings n word arguments) (subst (λ (found : Place). is_text found ≡ false) same bytes)))
+    (made_settles words inner (statement_view spellings) (writes_bytes place (map value_view values))
+    c.writes_components.result c.writes_components.ensures
+    (named_means scopes spellings n word arguments items_alone look (bytes_many scopes spellings (n + 1))
+    writes_bytes value_view place value stands.ends.known still values gathered
+    (c.in_ok-some_item.ensures scopes spellings))))
