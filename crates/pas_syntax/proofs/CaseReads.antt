@@ -1,5 +1,5 @@
 -- What the readers of the elements of a `case` read.
-use Rattle.std.proofs.Common.{◌≡◌, refl, sym, ap, subst, ◌∙◌, ℕ, ◌+◌, ◌≤◌, Bool, true, false, List, [], ◌∷◌, ◌++◌}
+use Rattle.std.proofs.Common.{◌≡◌, refl, sym, ap, subst, ◌∙◌, ℕ, ◌≤◌, Bool, true, false, List, [], ◌∷◌, ◌++◌}
 use Rattle.std.proofs.Common.{append_assoc, Option, Some, None}
 use Rattle.std.specs.Prelude.{if◌then◌else◌}
 use Rattle.std.specs.Str.{bytes_eq}
@@ -16,7 +16,7 @@ use Rattle.pas_syntax.specs.Words.{Word, at, name_at, separated, constant_words,
 use Rattle.pas_syntax.specs.Words.{elements_words, others_words, others_word}
 use Rattle.pas_syntax.specs.Nearest.{last_behind, last_item, IsNotOthers, IsNearestStatement, AreNearestElements}
 use Rattle.pas_syntax.specs.Nearest.{IsNearestTail}
-use Rattle.pas_syntax.specs.inner.Prog.{Prog, done, look, bind, head, more, turns}
+use Rattle.pas_syntax.specs.inner.Prog.{Prog, done, look, bind, head, turns}
 use Rattle.pas_syntax.specs.inner.TypeReaders.{pushed, single, items_by, constant}
 use Rattle.pas_syntax.specs.inner.Marks.{mark, maybe_mark}
 use Rattle.pas_syntax.specs.inner.StatementReaders.{Element, Arm, one_more, tail, Arms, with_arm, is_others}

@@ -1,5 +1,5 @@
 -- What the readers of constants, and of names and subranges as types, read and reach.
-use Rattle.std.proofs.Common.{◌≡◌, refl, ℕ, ◌+◌, ◌≤◌, List, [], ◌∷◌, ◌++◌}
+use Rattle.std.proofs.Common.{◌≡◌, refl, ℕ, ◌≤◌, List, [], ◌∷◌, ◌++◌}
 use Rattle.std.proofs.Common.{Ok, Option, Some, None}
 use Rattle.std.proofs.lemmas.List.{append-nil}
 use Rattle.wb_base.specs.declared.faults.TheConstants.{ENUMERATIONS, SETS, POINTERS}

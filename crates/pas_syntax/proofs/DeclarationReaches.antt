@@ -6,7 +6,7 @@ use Rattle.std.proofs.lemmas.List.{append-nil, length-append}
 use Rattle.wb_base.specs.declared.faults.TheConstants.{ENUMERATIONS, SETS, POINTERS, ROUTINES_AS_PARAMETERS}
 use Rattle.pas_tokens.specs.declared.kinds.Kind.{Kind}
 use Rattle.pas_tokens.specs.declared.kinds.Kind.TheVariants as k
-use Rattle.pas_tokens.specs.Cutting.{Payload, nothing, value, spelling}
+use Rattle.pas_tokens.specs.Cutting.{Payload, nothing, spelling}
 use Rattle.pas_tokens.specs.Tokens.{Token}
 use Rattle.pas_syntax.specs.declared.limits.TheConstants.{NESTING_LIMIT}
 use Rattle.pas_syntax.specs.Tree as tree

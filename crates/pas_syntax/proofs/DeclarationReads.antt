@@ -1,5 +1,5 @@
 -- The readers of declarations read what the grammar spells.
-use Rattle.std.proofs.Common.{◌≡◌, refl, sym, ap, subst, ◌∙◌, ℕ, ◌+◌, ◌≤◌, List, [], ◌∷◌, ◌++◌, append_assoc}
+use Rattle.std.proofs.Common.{◌≡◌, refl, sym, ap, subst, ◌∙◌, ℕ, ◌≤◌, List, [], ◌∷◌, ◌++◌, append_assoc}
 use Rattle.std.proofs.Common.{Option, Some, None}
 use Rattle.std.specs.List.{flat_map}
 use Rattle.std.proofs.lemmas.Grind.{flat_map-append}
@@ -7,7 +7,7 @@ use Rattle.std.proofs.lemmas.List.{append-nil}
 use Rattle.wb_base.specs.declared.faults.TheConstants.{ENUMERATIONS, SETS, POINTERS, ROUTINES_AS_PARAMETERS}
 use Rattle.pas_tokens.specs.declared.kinds.Kind.{Kind}
 use Rattle.pas_tokens.specs.declared.kinds.Kind.TheVariants as k
-use Rattle.pas_tokens.specs.Cutting.{Payload, nothing, value, spelling}
+use Rattle.pas_tokens.specs.Cutting.{Payload, nothing, spelling}
 use Rattle.pas_syntax.specs.declared.limits.TheConstants.{NESTING_LIMIT}
 use Rattle.pas_syntax.specs.Tree as tree
 use Rattle.pas_syntax.specs.Tree.{Ident, Numeral, Behind, Separated, Idents, Constant, TypeName, TypeForm, Labels}
@@ -15,7 +15,7 @@ use Rattle.pas_syntax.specs.Tree.{ConstantRow, TypeRow, VariableRow, Rows, Param
 use Rattle.pas_syntax.specs.Words.{Word, at, shows, name_at, number_at, words_if, separated}
 use Rattle.pas_syntax.specs.Words.{type_words, type_name_words, labels_words, constant_row_words, type_row_words}
 use Rattle.pas_syntax.specs.Words.{variable_row_words, rows_words, parameter_words, parameters_words, result_words}
-use Rattle.pas_syntax.specs.inner.Prog.{Prog, done, bind, more, turns}
+use Rattle.pas_syntax.specs.inner.Prog.{Prog, done, bind, turns}
 use Rattle.pas_syntax.specs.inner.Readers.{ident}
 use Rattle.pas_syntax.specs.inner.Marks.{mark, maybe_mark}
 use Rattle.pas_syntax.specs.inner.TypeReaders.{pushed, single, behind_item, items_by, idents_by, constant, type_form}

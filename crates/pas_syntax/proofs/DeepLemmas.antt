@@ -5,7 +5,6 @@ use Rattle.std.specs.Prelude.{nat_lt}
 use Rattle.pas_syntax.specs.declared.limits.TheConstants.{NESTING_LIMIT}
 use Rattle.pas_syntax.specs.declared.depth.Depth.{Depth}
 use Rattle.pas_syntax.specs.declared.stop.Stop.{Stop}
-use Rattle.pas_syntax.specs.declared.stop.Stop.TheVariants as stop
 use Rattle.pas_syntax.specs.inner.Prog.{Prog, done, run}
 use Rattle.pas_syntax.specs.inner.Places.{Place, ParsesIn}
 use Rattle.pas_syntax.specs.declared.depth.Deep.{Deep}

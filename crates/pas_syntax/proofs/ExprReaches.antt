@@ -24,12 +24,11 @@ use Rattle.pas_syntax.specs.Words.{adding_kind}
 use Rattle.pas_syntax.specs.Words.{relation_kind, sign_kind, sum_depth, term_depth, expr_words, sum_words, term_words}
 use Rattle.pas_syntax.specs.Words.{factor_words, variable_words, exprs_words}
 use Rattle.pas_syntax.specs.Parse.{tokens_in}
-use Rattle.pas_syntax.specs.inner.Prog.{Prog, done, look, bind, Out, run, head, more, ends, turns}
+use Rattle.pas_syntax.specs.inner.Prog.{Prog, done, look, bind, Out, run, head, ends, turns}
 use Rattle.pas_syntax.specs.inner.Readers.{factor_behind, behind_factor}
 use Rattle.pas_syntax.specs.inner.Readers.{term_by, term_behind, behind_term, signed_by, first_term_at, sum_by}
 use Rattle.pas_syntax.specs.inner.Readers.{related_by}
 use Rattle.pas_syntax.specs.inner.Readers.{behind_sum, expr_by}
-use Rattle.pas_syntax.specs.inner.Readers.{factor, variable}
 use Rattle.pas_syntax.proofs.Judged.{Reaches, reaches_bind, reaches_last}
 use Rattle.pas_syntax.proofs.ReachLemmas.{reaches_turn, reaches_no, reaches_end, reaches_unless}
 use Rattle.pas_syntax.proofs.ReachLemmas.{reaches_look}

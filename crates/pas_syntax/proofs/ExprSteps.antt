@@ -21,7 +21,7 @@ use Rattle.pas_syntax.specs.declared.operators.Relation.TheVariants as relates
 use Rattle.pas_syntax.specs.Tree as tree
 use Rattle.pas_syntax.specs.Tree.{Ident, Lined, Expr, Sum, Term, Factor, Variable, Exprs}
 use Rattle.pas_syntax.specs.Words.{relation_kind, adding_kind, multiplying_kind, sign_kind, sum_depth, term_depth}
-use Rattle.pas_syntax.specs.inner.Prog.{Prog, done, fail, look, skip, bind, run, head, shown, more, ends, turn_of}
+use Rattle.pas_syntax.specs.inner.Prog.{Prog, done, fail, look, skip, bind, run, head, shown, ends, turn_of}
 use Rattle.pas_syntax.specs.inner.Prog.{a_turn}
 use Rattle.pas_syntax.specs.inner.Places.{Place, IsPlain, Fits, Gives, Parses, ParsesIn, same}
 use Rattle.pas_syntax.specs.inner.Deeps.{BeginsSelector}
@@ -30,7 +30,7 @@ use Rattle.pas_syntax.specs.inner.StatementReaders.{numeral, numeral_at}
 use Rattle.pas_syntax.specs.inner.Readers.{unless, turn_unless, ident, ident_at, quoted, quoted_at, behind_sum}
 use Rattle.pas_syntax.specs.inner.Readers.{related_by}
 use Rattle.pas_syntax.specs.inner.Readers.{behind_term, term_by, behind_factor, first_term_at, signed_by, factor_at}
-use Rattle.pas_syntax.specs.inner.Readers.{factor, expr, exprs, variable}
+use Rattle.pas_syntax.specs.inner.Readers.{factor, expr, exprs}
 use Rattle.pas_syntax.specs.inner.Readers.{parenthesized_by, negated_by, named_by, behind_name, call_by, variable_by}
 use Rattle.pas_syntax.specs.inner.Readers.{behind_expr, behind_variable, right_parenthesis_at, right_bracket_at}
 use Rattle.pas_syntax.specs.inner.Marks.{mark, mark_at}

@@ -11,7 +11,7 @@ use Rattle.pas_syntax.specs.declared.limits.TheConstants.{NESTING_LIMIT}
 use Rattle.pas_syntax.specs.Tree.{Behind, Separated}
 use Rattle.pas_syntax.specs.Words.{Word, at, separated}
 use Rattle.pas_syntax.specs.Parse.{tokens_in}
-use Rattle.pas_syntax.specs.inner.Prog.{Prog, done, bind, Out, head, more, ends, turns}
+use Rattle.pas_syntax.specs.inner.Prog.{Prog, done, bind, Out, head, ends, turns}
 use Rattle.pas_syntax.specs.inner.TypeReaders.{pushed, single, behind_item, items_by}
 use Rattle.pas_syntax.proofs.Good.{a_token, Reads, reads_done, reads_bind}
 use Rattle.pas_syntax.proofs.TurnLemmas.{Any, Begins, reads_turns}

@@ -1,5 +1,5 @@
 -- Loops of the code that read items with commas between them.
-use Rattle.std.proofs.Common.{◌≡◌, refl, sym, ap, subst, ◌∙◌, ℕ, suc, ◌+◌, arith, List, [], ◌∷◌, ◌++◌, map}
+use Rattle.std.proofs.Common.{◌≡◌, refl, sym, ap, subst, ◌∙◌, ℕ, suc, arith, List, [], ◌∷◌, ◌++◌, map}
 use Rattle.std.proofs.Common.{length, Ok, Err}
 use Rattle.std.proofs.lemmas.List.{map-append}
 use Rattle.pas_tokens.specs.declared.kinds.Kind.{Kind}

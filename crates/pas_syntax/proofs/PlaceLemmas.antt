@@ -14,7 +14,6 @@ use Rattle.pas_tokens.specs.Tokens.{Token, after_first}
 use Rattle.pas_syntax.specs.declared.stop.Stop.{Stop}
 use Rattle.pas_syntax.specs.declared.stop.Stop.TheVariants as stop
 use Rattle.pas_syntax.specs.inner.Prog.{Prog, done, fail, look, skip, bind, run, head, and_then, misplaced, shown}
-use Rattle.pas_syntax.specs.inner.Prog.{more, no, turns}
 use Rattle.pas_syntax.specs.inner.Places.{Place, Fits, IsPlain, AreTokens, spelled_by, spelled_of, Passes, StopsBy}
 use Rattle.pas_syntax.specs.inner.Places.{Gives, ParsesIn, Parses, same}
 use Rattle.pas_syntax.specs.inner.Marks.{same_kind, mark_if, mark_at, mark, maybe_if, maybe_at, maybe_mark}

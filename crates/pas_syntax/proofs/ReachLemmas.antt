@@ -1,5 +1,5 @@
 -- What a loop answers at the words of its turns.
-use Rattle.std.proofs.Common.{◌≡◌, refl, ap, ◌∙◌, ℕ, suc, ◌+◌, Bool, true, false}
+use Rattle.std.proofs.Common.{◌≡◌, refl, ap, ◌∙◌, ℕ, suc, Bool, true, false}
 use Rattle.std.proofs.Common.{List, [], ◌∷◌, ◌++◌, Ok, Some}
 use Rattle.wb_base.specs.declared.faults.TheConstants.{NESTING_PAST_LIMIT}
 use Rattle.pas_tokens.specs.declared.kinds.Kind.{Kind}

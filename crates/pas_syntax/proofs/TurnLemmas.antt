@@ -1,5 +1,5 @@
 -- The laws of a loop whose turns each begin with a token: what it reads, and what it reaches.
-use Rattle.std.proofs.Common.{◌≡◌, subst, ℕ, zero, suc, ◌+◌, List, [], ◌∷◌, ◌++◌}
+use Rattle.std.proofs.Common.{◌≡◌, subst, ℕ, zero, suc, List, [], ◌∷◌, ◌++◌}
 use Rattle.std.proofs.Common.{append_assoc, Some}
 use Rattle.std.proofs.lemmas.List.{append-nil}
 use Rattle.pas_tokens.specs.declared.kinds.Kind.{Kind}

@@ -1,11 +1,10 @@
 -- Which words show faults, and how readers and loops go where nesting may pass its limit.
-use Rattle.std.proofs.Common.{◌≡◌, refl, ℕ, ◌+◌, ◌≤◌, Bool, true, false}
+use Rattle.std.proofs.Common.{◌≡◌, refl, ℕ, ◌≤◌, Bool, true, false}
 use Rattle.std.proofs.Common.{List, ◌∷◌, ◌++◌, Some}
 use Rattle.std.specs.Prelude.{nat_lt}
 use Rattle.std.proofs.lemmas.Bool.{le-ltb, ltb-false}
 use Rattle.wb_base.specs.declared.faults.TheConstants.{NESTING_PAST_LIMIT}
 use Rattle.pas_tokens.specs.declared.kinds.Kind.{Kind}
-use Rattle.pas_tokens.specs.declared.kinds.Kind.TheVariants as k
 use Rattle.pas_tokens.specs.Cutting.{Payload}
 use Rattle.pas_tokens.specs.Tokens.{Token}
 use Rattle.pas_syntax.specs.declared.limits.TheConstants.{NESTING_LIMIT}

@@ -1,7 +1,7 @@
 -- What a text means: the one tree that spells its tokens, or the first token that no program goes on with.
-use Rattle.std.specs.Prelude.{◌≡◌, ◌≢◌, ◌⊎◌, ℕ, ◌||◌, nat_lt, Bool, true, false, if◌then◌else◌, List, [], ◌∷◌, ◌++◌}
+use Rattle.std.specs.Prelude.{◌≡◌, ◌≢◌, ◌⊎◌, ℕ, ◌||◌, nat_lt, if◌then◌else◌, List, ◌∷◌, ◌++◌}
 use Rattle.std.specs.Prelude.{map, All}
-use Rattle.std.specs.Prelude.{Option, Some, None, Result, Ok, Err}
+use Rattle.std.specs.Prelude.{Option, Some, None, Ok, Err}
 use Rattle.wb_base.specs.declared.faults.Fault.{Fault}
 use Rattle.wb_base.specs.declared.faults.TheConstants.{PASCAL_SYNTAX, PASCAL_LEFT_OUT, NESTING_PAST_LIMIT}
 use Rattle.pas_tokens.specs.Cutting.{Wrong, wrong}

@@ -1,5 +1,5 @@
 -- The grammar at work: texts, and the trees that they mean.
-use Rattle.std.specs.Prelude.{◌≡◌, ◌≢◌, ℕ, List, [], ◌∷◌, ◌++◌, codes, Option, Some, None, Result, Ok, Err, refl}
+use Rattle.std.specs.Prelude.{◌≡◌, ℕ, List, [], ◌∷◌, ◌++◌, codes, Some, None, Ok, refl}
 use Rattle.wb_base.specs.declared.faults.TheConstants.{VARIANT_RECORDS, NESTED_ROUTINES, LOCAL_CONSTANTS_AND_TYPES}
 use Rattle.pas_tokens.specs.declared.kinds.Kind.TheVariants as k
 use Rattle.pas_tokens.specs.Cutting.{nothing, spelling}

@@ -1,9 +1,6 @@
 -- The types, statements and declarations of the code as those of the definition.
-use Rattle.std.specs.Prelude.{ℕ, List, [], ◌∷◌, map, Option, Some, None}
-use Rattle.pas_syntax.specs.declared.operators.Way.{Way}
+use Rattle.std.specs.Prelude.{ℕ, List, map}
 use Rattle.pas_syntax.specs.declared.tree.Ident.{Ident as CodeIdent}
-use Rattle.pas_syntax.specs.declared.tree.ArrayHead.{ArrayHead}
-use Rattle.pas_syntax.specs.declared.tree.FileHead.{FileHead}
 use Rattle.pas_syntax.specs.declared.tree.TypeForm as code_form
 use Rattle.pas_syntax.specs.declared.tree.TypeForm.TheOpen.{TypeForm-F, FieldGroup-F, MoreFields-F, RecordForm-F}
 use Rattle.pas_syntax.specs.declared.tree.TypeForm.TheFolds.{fold-TypeForm}
@@ -33,7 +30,6 @@ use Rattle.pas_syntax.specs.declared.tree.Parameter.{Parameter as CodeParameter}
 use Rattle.pas_syntax.specs.declared.tree.Parameters.{Parameters as CodeParameters}
 use Rattle.pas_syntax.specs.declared.tree.Heading.{Heading as CodeHeading}
 use Rattle.pas_syntax.specs.declared.tree.Heading.TheVariants as heading
-use Rattle.pas_syntax.specs.declared.tree.Block.{Block}
 use Rattle.pas_syntax.specs.declared.tree.Body.{Body as CodeBody}
 use Rattle.pas_syntax.specs.declared.tree.Body.TheVariants as body
 use Rattle.pas_syntax.specs.declared.tree.Routine.{Routine as CodeRoutine}

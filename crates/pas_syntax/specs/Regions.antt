@@ -1,12 +1,12 @@
 -- What the tokens before a place tell of it: whether it is in a record type, or in the declarations of a routine. There
 -- some tokens show a part of Pascal that is left out. This project's own.
-use Rattle.std.specs.Prelude.{ℕ, zero, suc, ◌+◌, ◌-◌, nat_lt, Bool, true, false, if◌then◌else◌, List, fold, Option}
+use Rattle.std.specs.Prelude.{ℕ, ◌+◌, ◌-◌, nat_lt, Bool, false, if◌then◌else◌, List, fold, Option}
 use Rattle.std.specs.Prelude.{Some, None}
 use Rattle.std.specs.Str.{bytes_eq}
 use Rattle.wb_base.specs.declared.faults.TheConstants.{VARIANT_RECORDS, NESTED_ROUTINES, LOCAL_CONSTANTS_AND_TYPES}
 use Rattle.pas_tokens.specs.declared.kinds.Kind.{Kind}
 use Rattle.pas_tokens.specs.declared.kinds.Kind.TheVariants as k
-use Rattle.pas_tokens.specs.Cutting.{Payload, nothing, value, spelling}
+use Rattle.pas_tokens.specs.Cutting.{Payload, spelling}
 use Rattle.pas_tokens.specs.Tokens.{Token}
 use Rattle.pas_syntax.specs.Tree.{forward_name}
 

@@ -1,11 +1,7 @@
 -- The trees of the code as those of the definition. The spellings are those of all names and strings of the text, one
 -- after the other.
-use Rattle.std.specs.Prelude.{ℕ, List, [], ◌∷◌, map, fold, take, drop, Option, Some, None}
+use Rattle.std.specs.Prelude.{ℕ, List, map, fold, take, drop, Option, Some, None}
 use Rattle.pas_syntax.specs.declared.operators.Sign.{Sign}
-use Rattle.pas_syntax.specs.declared.operators.Multiplying.{Multiplying}
-use Rattle.pas_syntax.specs.declared.operators.Adding.{Adding}
-use Rattle.pas_syntax.specs.declared.operators.Relation.{Relation}
-use Rattle.pas_syntax.specs.declared.operators.Way.{Way}
 use Rattle.pas_syntax.specs.declared.tree.Span.{Span}
 use Rattle.pas_syntax.specs.declared.tree.Ident.{Ident as CodeIdent}
 use Rattle.pas_syntax.specs.declared.tree.Numeral.{Numeral as CodeNumeral}

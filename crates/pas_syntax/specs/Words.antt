@@ -2,7 +2,7 @@
 -- profile). A word is a token with what the limits of nesting count at it: the forms that are open, and, at an
 -- operator, the operators on the longest way down to it and through its left operand. Which forms count is this
 -- project's own.
-use Rattle.std.specs.Prelude.{ℕ, suc, ◌+◌, max, List, [], ◌∷◌, ◌++◌, Option, Some, None}
+use Rattle.std.specs.Prelude.{ℕ, ◌+◌, max, List, [], ◌∷◌, ◌++◌, Option, Some, None}
 use Rattle.std.specs.List.{flat_map}
 use Rattle.wb_base.specs.declared.faults.TheConstants.{REAL_NUMBERS, ENUMERATIONS, SETS, POINTERS, WITH_STATEMENTS}
 use Rattle.wb_base.specs.declared.faults.TheConstants.{ROUTINES_AS_PARAMETERS}

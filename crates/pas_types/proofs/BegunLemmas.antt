@@ -25,7 +25,7 @@ use Rattle.pas_typed.specs.TypedViews.{variable_view}
 use Rattle.pas_typed.specs.TypeViews.{counted, table_view}
 use Rattle.pas_types.specs.declared.scopes.Inner.{Inner as CodeInner}
 use Rattle.pas_types.specs.declared.scopes.Scopes.{Scopes as CodeScopes}
-use Rattle.pas_types.specs.Scopes.{Inner, Named, names, names_of, contains, standard_names, Outer, entity_in, required}
+use Rattle.pas_types.specs.Scopes.{Named, names, names_of, contains, standard_names, Outer, entity_in, required}
 use Rattle.pas_types.specs.Scopes.{unclear, idents_of, Scopes}
 use Rattle.pas_types.specs.Labels.{label_at_end}
 use Rattle.pas_types.specs.Declarations.{named_slots, variables_of, program_scopes, cells_together, declared_labels}

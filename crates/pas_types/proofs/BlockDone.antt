@@ -17,14 +17,14 @@ use Rattle.pas_types.specs.Scopes.{Outer, Inner}
 use Rattle.pas_types.specs.Declarations.{declared_labels, label_marks, local_rows, InnerStage}
 use Rattle.pas_types.specs.Routines.{Sort, inner_of}
 use Rattle.pas_types.specs.ScopeViews.{outer_view, inner_view, scopes_view}
-use Rattle.pas_types.specs.inner.Answers.{FailsBy, IsQuiet}
+use Rattle.pas_types.specs.inner.Answers.{IsQuiet}
 use Rattle.pas_types.specs.inner.LabelViews.{Known, numbers_of, known_labels}
 use Rattle.pas_types.specs.inner.Locals.{IsWithin, Leaves, Passes}
 use Rattle.pas_types.specs.inner.RoutineAnswers.{awaited_at, IsReady}
 use Rattle.pas_types.specs.inner.BlockAnswers.{without_awaited, IsBody, begun, local_part, Leads, IsBlock}
 use Rattle.pas_types.proofs.PlainSeen.{body_seen}
 use Rattle.pas_types.proofs.EnterLemmas.{within_entered, outer_entered, inner_entered, entered}
-use Rattle.pas_types.proofs.BlockSteps.{Fails, variables_fail, body_fails, there, labels_are, body_there, made}
+use Rattle.pas_types.proofs.BlockSteps.{variables_fail, body_fails, there, labels_are, body_there, made}
 use Rattle.pas_types.proofs.BlockSteps.{block_leads, clear_outside}
 
 -- what is answered of the variables in these scopes

@@ -1,8 +1,7 @@
 -- Statements of a routine, and what its `end` shows.
-use Rattle.std.proofs.Common.{◌≡◌, refl, sym, ap, subst, ◌∙◌, ℕ, Bool, true, false, List, [], ◌∷◌, ◌++◌, map}
+use Rattle.std.proofs.Common.{◌≡◌, refl, sym, ap, subst, ◌∙◌, ℕ, Bool, true, false, List, [], ◌∷◌, ◌++◌}
 use Rattle.std.proofs.Common.{Option, Some, None, Result, Ok, Err}
 use Rattle.std.specs.Option.{option_copied}
-use Rattle.wb_base.specs.declared.faults.Fault.{Fault}
 use Rattle.wb_base.specs.declared.faults.TheConstants.{WRONG_TYPE, WRONG_LABEL, RESULT_NEVER_ASSIGNED}
 use Rattle.pas_tokens.specs.Cutting.{Wrong, wrong}
 use Rattle.pas_tokens.specs.Tokens.{fault_in}

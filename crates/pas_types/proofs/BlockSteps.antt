@@ -1,6 +1,6 @@
 -- The block of a routine: what is answered of it, by what was answered of its parts.
 use Rattle.std.proofs.Common.{◌≡◌, refl, sym, ap, subst, ◌∙◌, ℕ, false, List, [], ◌∷◌, ◌++◌, map, Option, Some, None}
-use Rattle.std.proofs.Common.{Result, Ok, Err}
+use Rattle.std.proofs.Common.{Result, Ok}
 use Rattle.std.specs.Prelude.{option_map}
 use Rattle.pas_tokens.specs.Cutting.{Wrong}
 use Rattle.pas_tokens.specs.declared.kinds.Kind.TheVariants as k
@@ -22,10 +22,9 @@ use Rattle.pas_types.specs.Declarations.{declared_labels, label_marks, routine_s
 use Rattle.pas_types.specs.Routines.{Sort, inner_of, body_made}
 use Rattle.pas_types.specs.ScopeViews.{outer_view, inner_view, scopes_view, IsClear}
 use Rattle.pas_types.specs.inner.Answers.{FailsBy, IsQuiet}
-use Rattle.pas_types.specs.inner.Locals.{IsWithin, Leaves}
-use Rattle.pas_types.specs.inner.RoutineAnswers.{IsReady}
+use Rattle.pas_types.specs.inner.Locals.{Leaves}
 use Rattle.pas_types.specs.inner.BlockAnswers.{list_in, end_faults, body_marks, closed_words, IsBody, begun, local_part}
-use Rattle.pas_types.specs.inner.BlockAnswers.{ended, list_within, block_marks, block_words, Leads}
+use Rattle.pas_types.specs.inner.BlockAnswers.{ended, block_marks, block_words, Leads}
 use Rattle.pas_types.proofs.AsMany.{AsMany, one, and_then, all, next_word}
 use Rattle.pas_types.proofs.StatementsAsMany.{statements_many}
 use Rattle.pas_types.proofs.DeclarationsAsMany.{labels_many, local_rows_many}

@@ -1,5 +1,5 @@
 -- Behind routines that show no fault each routine has one body, or waits for it.
-use Rattle.std.proofs.Common.{◌≡◌, ◌≢◌, ◌⊎◌, inl, inr, refl, sym, ap, subst, ◌∙◌, ℕ, zero, suc, ◌+◌, ◌<◌, ◌≤◌, ◌==◌}
+use Rattle.std.proofs.Common.{◌≡◌, ◌≢◌, ◌⊎◌, inl, inr, refl, sym, ap, subst, ◌∙◌, ℕ, zero, suc, ◌<◌, ◌==◌}
 use Rattle.std.proofs.Common.{◌&&◌, arith, Bool, true, false, List, [], ◌∷◌, ◌++◌, length, map, append_assoc}
 use Rattle.std.proofs.Common.{append-nil}
 use Rattle.std.proofs.Common.{Option, Some, None, IfSome, IsSome, is_some, find, eq-eqb, ne_eqb, true≢false}

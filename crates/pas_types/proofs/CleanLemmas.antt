@@ -1,10 +1,9 @@
 -- Parts of which no word shows a fault, and what is known of them then.
-use Rattle.std.proofs.Common.{◌≡◌, refl, sym, ap, subst, ◌∙◌, ◌<◌, ◌+◌, arith, Bool, true, false, List, [], ◌∷◌, ◌++◌}
+use Rattle.std.proofs.Common.{◌≡◌, refl, ap, subst, ◌<◌, arith, Bool, true, false, List, [], ◌∷◌, ◌++◌}
 use Rattle.std.proofs.Common.{length, map, Option, Some, None, IfSome}
-use Rattle.std.specs.Prelude.{⊤, ◌&&◌}
 use Rattle.pas_tokens.specs.Cutting.{Wrong}
-use Rattle.pas_types.specs.Marks.{Marks, no_token, quiet, shows, first_of, at_first, last_of, at_last, with_behind}
-use Rattle.pas_types.specs.Marks.{followed, joined, listed, unless, Judged, judged, known, both, known_of, all_known}
+use Rattle.pas_types.specs.Marks.{Marks, quiet, first_of, at_first, last_of, at_last, with_behind}
+use Rattle.pas_types.specs.Marks.{followed, joined, listed, unless, Judged, known, both, all_known}
 use Rattle.pas_types.specs.Marks.{kept_by, checked_by, checked, faults_if, noted}
 -- something that holds of each item
 pub use Rattle.std.specs.List.{AllByRecursion as Each}

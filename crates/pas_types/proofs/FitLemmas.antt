@@ -1,7 +1,7 @@
 -- Values that are fit for what takes them, or not.
 use Rattle.std.proofs.Common.{◌≡◌, refl, sym, ap, subst, ◌∙◌, ℕ, Bool, true, false, List, [], ◌∷◌, Option, Some, None}
 use Rattle.std.proofs.Common.{Result, Ok, Err, map}
-use Rattle.std.specs.Prelude.{IfOk, OnErr, ◌&&◌, option_map, is_some, if◌then◌else◌, option_and_then}
+use Rattle.std.specs.Prelude.{◌&&◌, option_map, is_some, if◌then◌else◌}
 use Rattle.std.proofs.lemmas.Option.{none-some}
 use Rattle.wb_base.specs.declared.faults.TheConstants.{WRONG_TYPE, FILE_RULE}
 use Rattle.pas_tokens.specs.Cutting.{Wrong, wrong}
@@ -10,11 +10,10 @@ use Rattle.pas_typed.specs.declared.typed.Function.{Function as CodeFunction}
 use Rattle.pas_typed.specs.declared.typed.Function.TheVariants as function
 use Rattle.pas_typed.specs.declared.typed.Mode.{Mode as CodeMode}
 use Rattle.pas_typed.specs.declared.typed.Mode.TheVariants as mode
-use Rattle.pas_typed.specs.declared.typed.Place as code_place
 use Rattle.pas_typed.specs.declared.typed.Call as code_call
 use Rattle.pas_typed.specs.declared.typed.Value.TheVariants as code_value
 use Rattle.pas_typed.specs.TypeViews.{type_view}
-use Rattle.pas_typed.specs.TypedViews.{function_view, mode_view, place_view, value_view, passed_views}
+use Rattle.pas_typed.specs.TypedViews.{function_view, mode_view, value_view, passed_views}
 use Rattle.pas_typed.proofs.ValueViews.{value_view-Call, call_view-roll}
 use Rattle.pas_typed.specs.Types.{PasType, Table, integer, text, same_type}
 use Rattle.pas_typed.specs.Typed as typed
@@ -24,11 +23,11 @@ use Rattle.pas_types.specs.declared.stop.Stop.{Stop}
 use Rattle.pas_types.specs.Marks.{Marks, Judged, judged, known, both, checked}
 use Rattle.pas_types.specs.Marks.{checked_by, kept_by, unless, at_first}
 use Rattle.pas_types.specs.Expressions.{Demand, bare, bare_argument, met, asked_nothing, function_demand, only}
-use Rattle.pas_types.specs.Expressions.{demand_of_mode, compatible_with, is_reference, place_in, file_in, file_only}
-use Rattle.pas_types.specs.Expressions.{is_file, test_demand, without_arguments}
+use Rattle.pas_types.specs.Expressions.{demand_of_mode, compatible_with, is_reference, place_in, file_in}
+use Rattle.pas_types.specs.Expressions.{test_demand, without_arguments}
 use Rattle.pas_types.specs.inner.Answers.{Ending, noted_end, lawful_end, short_end, stands_by, EndsAs, FailsBy}
 use Rattle.pas_types.specs.inner.Answers.{StandsAs}
-use Rattle.pas_types.specs.inner.Answers.{Means, Stands}
+use Rattle.pas_types.specs.inner.Answers.{Stands}
 use Rattle.pas_types.specs.declared.judged.Judged.{Judged as CodeJudged}
 use Rattle.pas_typed.specs.declared.typed.Variable.{Variable as CodeVariable}
 use Rattle.pas_types.specs.inner.Arguments.{Taker, taken_as, taken_by, is_asked_of, not_asked, passing_in}

@@ -1,11 +1,11 @@
 -- The scope of the program behind routines: its table is longer, and the names of the routines stand for no variables.
 use Rattle.std.proofs.Common.{◌≡◌, refl, sym, ap, subst, ◌∙◌, ℕ, zero, suc, ◌<◌, arith, Bool, true, false, List, []}
-use Rattle.std.proofs.Common.{◌∷◌, ◌++◌, length, map, Option, Some, None}
+use Rattle.std.proofs.Common.{◌∷◌, ◌++◌, length, Option, Some, None}
 use Rattle.std.specs.Prelude.{⊤, option_map, option_and_then, slice_get, find, cond, ◌||◌, if◌then◌else◌}
 use Rattle.std.specs.Str.{bytes_eq}
 use Rattle.std.proofs.lemmas.Slice.Eq.{bytes_eq-Decides}
 use Rattle.wb_base.specs.declared.faults.TheConstants.{FILE_RULE}
-use Rattle.pas_tokens.specs.Cutting.{Wrong, wrong}
+use Rattle.pas_tokens.specs.Cutting.{wrong}
 use Rattle.pas_typed.specs.Types as types
 use Rattle.pas_typed.specs.Types.{PasType, Structure, TableRow, Table, component_in, has_component, is_lawful_file}
 use Rattle.pas_typed.specs.Types.{range_in, is_byte_range, structure_of, row_of}

@@ -1,22 +1,19 @@
 -- The words of a program that a text means are those of tokens.
-use Rattle.std.proofs.Common.{◌≡◌, refl, sym, ap, subst, ◌∙◌, ℕ, zero, suc, ◌+◌, ◌≤◌, ◌==◌, ◌&&◌, ◌||◌, arith, Bool}
+use Rattle.std.proofs.Common.{◌≡◌, refl, sym, subst, ℕ, zero, suc, ◌+◌, ◌≤◌, ◌==◌, arith, Bool}
 use Rattle.std.proofs.Common.{true}
-use Rattle.std.proofs.Common.{false, List, [], ◌∷◌, ◌++◌, length, map, take, drop, Option, Some, None, Result, Ok, Err}
-use Rattle.std.proofs.Common.{IfOk, All, eqb-true}
-use Rattle.std.specs.Prelude.{⊤, nat_lt, codes, if◌then◌else◌}
+use Rattle.std.proofs.Common.{false, List, [], ◌∷◌, length, map, take, drop, Option, Some, None, Result, Ok, Err}
+use Rattle.std.proofs.Common.{IfOk, eqb-true}
+use Rattle.std.specs.Prelude.{⊤, nat_lt, if◌then◌else◌}
 use Rattle.std.specs.List.{take_while}
 use Rattle.std.specs.Option.{option_map_or}
-use Rattle.std.specs.Str.{bytes_eq}
-use Rattle.std.specs.Char.{is_ascii_graphic, is_ascii_alphabetic, is_ascii_digit, to_ascii_lowercase}
+use Rattle.std.specs.Char.{is_ascii_alphabetic, is_ascii_digit, to_ascii_lowercase}
 use Rattle.std.proofs.lemmas.Option.{none-some, same_Some}
 use Rattle.std.proofs.lemmas.List.Elements.{recursion_from_All}
 use Rattle.std.proofs.lemmas.Bool.Decides.{nat_tests}
 use Rattle.wb_base.specs.declared.faults.Fault.{Fault}
-use Rattle.wb_base.specs.declared.faults.TheConstants.{LIMIT_FILE_BYTES, FILE_LIMIT, BAD_PASCAL_TOKEN}
-use Rattle.wb_base.specs.declared.faults.TheConstants.{BAD_PASCAL_BYTE, PASCAL_LEFT_OUT, REAL_NUMBERS}
-use Rattle.wb_base.specs.declared.faults.TheConstants.{NESTING_PAST_LIMIT}
+use Rattle.wb_base.specs.declared.faults.TheConstants.{FILE_LIMIT, BAD_PASCAL_TOKEN}
+use Rattle.wb_base.specs.declared.faults.TheConstants.{PASCAL_LEFT_OUT, REAL_NUMBERS}
 use Rattle.wb_base.specs.Steps.{followed_by}
-use Rattle.pas_tokens.specs.declared.kinds.Kind.{Kind}
 use Rattle.pas_tokens.specs.declared.kinds.Kind.TheVariants as k
 use Rattle.pas_tokens.specs.declared.limits.TheConstants.{NAME_LIMIT, GREATEST_NUMBER}
 use Rattle.pas_tokens.specs.Spellings.{kind_in, reserved_words, signs_of_one, signs_of_two}
@@ -31,8 +28,8 @@ use Rattle.pas_syntax.specs.Parse.{IsSound, fault_by, left_out, tokens_in}
 use Rattle.pas_typed.specs.Typed.{TypedProgram}
 use Rattle.pas_typed.specs.Lawful.{IsLawful}
 use Rattle.pas_types.specs.Check.{Means}
-use Rattle.pas_types.proofs.CleanLemmas.{Each, each_append}
-use Rattle.pas_types.proofs.HeldWords.{AreBytes, IsHeldBy, IsHeld, IsHeldWord, AreHeld}
+use Rattle.pas_types.proofs.CleanLemmas.{Each}
+use Rattle.pas_types.proofs.HeldWords.{AreBytes, IsHeldBy, IsHeld, AreHeld}
 use Rattle.pas_types.proofs.LawfulPrograms.{means_lawful}
 
 either : {A : Type 0} (P : A → Type 0) (b : Bool) (one other : A) → (b ≡ true → P one) → (b ≡ false → P other)

@@ -11,7 +11,7 @@ use Rattle.pas_syntax.specs.Tree as tree
 use Rattle.pas_syntax.specs.Tree.{Behind, Lined, Ident, Separated, Constant, Simple, TypeForm, Fields, LeftOutType}
 use Rattle.pas_syntax.specs.declared.operators.Sign.{Sign}
 use Rattle.pas_syntax.specs.Parse.{left_out}
-use Rattle.pas_syntax.specs.Words.{Word, at, words_if, constant_sign, constant_words, simple_words, type_words}
+use Rattle.pas_syntax.specs.Words.{at, constant_words, simple_words, type_words}
 use Rattle.pas_syntax.specs.Words.{fields_words, left_out_type_words, separated, maybe, idents_words}
 use Rattle.pas_typed.specs.Types.{PasType, Table, Made, made, fields}
 use Rattle.pas_types.specs.Marks.{Marks, shows, quiet, no_token, joined, Judged, known, both, kept_by, checked_by}

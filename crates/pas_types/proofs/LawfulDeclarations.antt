@@ -1,8 +1,8 @@
 -- Declarations of constants, types and variables of the program that show no fault leave a lawful scope.
-use Rattle.std.proofs.Common.{◌≡◌, refl, sym, ap, ap₂, subst, ◌∙◌, ℕ, zero, suc, ◌+◌, ◌<◌, ◌≤◌, arith, ◌&&◌, Bool, true}
-use Rattle.std.proofs.Common.{false, not, List, [], ◌∷◌, ◌++◌, length, map, Option, Some, None, IfSome, IsTrue, IsSome}
-use Rattle.std.proofs.Common.{ℤ, pos, neg_ℤ, ◌≤ℤ◌, int_le, T}
-use Rattle.std.specs.Prelude.{⊤, option_map, slice_get, find, flat_map, codes, if◌then◌else◌}
+use Rattle.std.proofs.Common.{◌≡◌, refl, sym, ap, subst, ◌∙◌, ℕ, zero, suc, ◌≤◌, arith, Bool, true}
+use Rattle.std.proofs.Common.{false, List, [], ◌∷◌, ◌++◌, length, Option, Some, None, IfSome, IsTrue, IsSome}
+use Rattle.std.proofs.Common.{ℤ, pos, neg_ℤ, ◌≤ℤ◌, int_le}
+use Rattle.std.specs.Prelude.{option_map, slice_get, find, flat_map, if◌then◌else◌}
 use Rattle.std.specs.Str.{bytes_eq}
 use Rattle.std.proofs.lemmas.Int.{ints}
 use Rattle.std.proofs.lemmas.Float.{T_from_true}
@@ -20,11 +20,11 @@ use Rattle.pas_syntax.specs.Tree as tree
 use Rattle.pas_syntax.specs.Tree.{Lined, ConstantRow, TypeRow, VariableRow, Rows, Constant}
 use Rattle.pas_syntax.specs.Words.{Word, words_if, constant_sign, constant_words, constant_row_words, type_row_words}
 use Rattle.pas_syntax.specs.Words.{variable_row_words, rows_words, type_words, idents_words}
-use Rattle.pas_typed.specs.Types.{Base, integer, char, boolean, all_of, is_within, same_base, PasType, Table, Made}
+use Rattle.pas_typed.specs.Types.{integer, all_of, is_within, same_base, PasType, Table, Made}
 use Rattle.pas_typed.specs.Typed as typed
 use Rattle.pas_typed.specs.Typed.{Variable, Heading, TypedProgram}
-use Rattle.pas_typed.specs.Shapes.{IsAmong, IsLawfulTable}
-use Rattle.pas_typed.specs.Lawful.{IsOrdinal, IsDeclared, variables_of}
+use Rattle.pas_typed.specs.Shapes.{IsLawfulTable}
+use Rattle.pas_typed.specs.Lawful.{IsDeclared, variables_of}
 use Rattle.pas_typed.proofs.GrowthLemmas.{Stays, stays_behind, Grows, place_stays, ordinal_stays}
 use Rattle.pas_typed.proofs.LongerTables.{IsAmong-more}
 use Rattle.pas_types.specs.Marks.{quiet, Judged, means, known, checked, noted, faults_if}
@@ -33,7 +33,6 @@ use Rattle.pas_types.specs.Scopes.{Entity, Named, names, Outer, Inner, Scopes, K
 use Rattle.pas_types.specs.Scopes.{or_else, required, spellings_of, new_names}
 use Rattle.pas_types.specs.TypeForms as forms
 use Rattle.pas_types.specs.TypeForms.{ConstantValue, constant_of, form_of}
-use Rattle.pas_types.specs.Expressions.{heading_of}
 use Rattle.pas_types.specs.Declarations as spec
 use Rattle.pas_types.specs.Declarations.{Stage, program_scopes}
 use Rattle.pas_types.proofs.CleanLemmas.{Each, each_then, each_append, IsClean, Lawfully, joined_clean, holds}
@@ -43,7 +42,7 @@ use Rattle.pas_types.proofs.LawfulScopes.{so_far, IsLawfulEntity, IsLawfulHeadin
 use Rattle.pas_types.proofs.LawfulValues.{IsLawfulConstant, char_lawful, undoubled_bytes, within_greatest, base_same}
 use Rattle.pas_types.proofs.LawfulValues.{both_true, within}
 use Rattle.pas_types.proofs.KnownForms.{IsPlain, ArePlain, made_known, constant_known, form_known}
-use Rattle.pas_types.proofs.LawfulForms.{IsGrown, grown_same, grown_on, IsMade, form_lawful}
+use Rattle.pas_types.proofs.LawfulForms.{IsGrown, grown_same, IsMade, form_lawful}
 
 -- the scope of the program
 abbrev pub IsNamed : TypedProgram → Named → Type 0

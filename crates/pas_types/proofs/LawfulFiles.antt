@@ -2,28 +2,27 @@
 use Rattle.std.proofs.Common.{length, ◌<◌}
 use Rattle.std.proofs.Common.{◌≡◌, ◌≢◌, refl, sym, ap, subst, ◌∙◌, ℕ, zero, suc, ◌+◌, arith, ◌||◌, Bool, true, false}
 use Rattle.std.proofs.Common.{not}
-use Rattle.std.proofs.Common.{List, [], ◌∷◌, ◌++◌, map, append_assoc, Option, Some, None, IsSome, is_some, IsSomeAnd}
+use Rattle.std.proofs.Common.{List, [], ◌∷◌, ◌++◌, map, append_assoc, Option, Some, None, IsSome, IsSomeAnd}
 use Rattle.std.proofs.Common.{true≢false}
-use Rattle.std.specs.Prelude.{⊤, slice_get, flat_map, option_map, option_to_list, position, if◌then◌else◌}
+use Rattle.std.specs.Prelude.{slice_get, flat_map, option_to_list, position}
 use Rattle.std.specs.Str.{bytes_eq}
-use Rattle.std.specs.List.{list_any}
 use Rattle.std.proofs.lemmas.Option.{none-some, same_Some, get_or_from_slice_get}
 use Rattle.std.proofs.lemmas.List.Quantifiers.{position-Some}
 use Rattle.std.proofs.lemmas.List.Folds.{list_any-append}
 use Rattle.std.proofs.lemmas.Slice.Eq.{bytes_eq-Decides}
 use Rattle.wb_base.specs.declared.faults.TheConstants.{UNKNOWN_NAME, DUPLICATE_NAME, FILE_RULE}
-use Rattle.pas_tokens.specs.Cutting.{Wrong, wrong}
+use Rattle.pas_tokens.specs.Cutting.{wrong}
 use Rattle.pas_syntax.specs.Tree.{Ident, ProgramParameters}
 use Rattle.pas_typed.specs.Types as types
 use Rattle.pas_typed.specs.Types.{PasType, Table, component_of, has_component, is_lawful_file}
 use Rattle.pas_typed.specs.Typed as typed
 use Rattle.pas_typed.specs.Typed.{Variable, Slot}
 use Rattle.pas_typed.specs.Lawful.{IsFile}
-use Rattle.pas_types.specs.Marks.{Marks, quiet, shows, unless, listed}
+use Rattle.pas_types.specs.Marks.{quiet, unless, listed}
 use Rattle.pas_types.specs.Scopes as scope
 use Rattle.pas_types.specs.Scopes.{Entity, variable, Named, Outer, contains, entity_in, idents_of}
 use Rattle.pas_types.specs.Check as spec
-use Rattle.pas_types.proofs.CleanLemmas.{Each, each_append, IsClean, joined_clean, listed_clean, no_faults, some_fault}
+use Rattle.pas_types.proofs.CleanLemmas.{Each, IsClean, joined_clean, listed_clean, no_faults, some_fault}
 use Rattle.pas_types.proofs.CleanLemmas.{holds}
 use Rattle.pas_types.proofs.BodiedRoutines.{AreOnce}
 use Rattle.pas_types.proofs.LinkedGlobals.{AreLinked, slot_of, AreFresh}

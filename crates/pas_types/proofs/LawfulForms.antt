@@ -1,7 +1,7 @@
 -- What type expressions make that show no fault: lawful rows behind those that were there.
-use Rattle.std.proofs.Common.{◌≡◌, refl, sym, ap, subst, ◌∙◌, ℕ, ◌+◌, ◌<◌, ◌≤◌, arith, le_trans, Bool, true, false}
+use Rattle.std.proofs.Common.{◌≡◌, refl, ap, subst, ℕ, ◌<◌, ◌≤◌, arith, le_trans, Bool, true, false}
 use Rattle.std.proofs.Common.{List}
-use Rattle.std.proofs.Common.{[], ◌∷◌, ◌++◌, length, map, Option, Some, None, IfSome, IsTrue, IsSome, is_some, All}
+use Rattle.std.proofs.Common.{[], ◌∷◌, ◌++◌, length, map, Option, Some, None, IfSome}
 use Rattle.std.proofs.lemmas.List.{length-append}
 use Rattle.std.proofs.lemmas.Option.{IfSome_then}
 use Rattle.std.proofs.lemmas.List.Elements.{All-from_recursion}
@@ -27,9 +27,8 @@ use Rattle.pas_types.specs.Scopes as scope
 use Rattle.pas_types.specs.Scopes.{Entity, Scopes, entity_of, spellings_of, new_names}
 use Rattle.pas_types.specs.TypeForms as spec
 use Rattle.pas_types.specs.TypeForms.{Indexes, Group, form_of, groups_of}
-use Rattle.pas_types.proofs.AsMany.{AsMany}
 use Rattle.pas_types.proofs.TypesAsMany.{form_many}
-use Rattle.pas_types.proofs.CleanLemmas.{Each, each_then, each_map, each_append, IsClean, Lawfully, joined_clean, holds}
+use Rattle.pas_types.proofs.CleanLemmas.{Each, each_then, each_append, IsClean, Lawfully, joined_clean, holds}
 use Rattle.pas_types.proofs.CleanLemmas.{at_last_clean, checked_value, noted_if, known_if}
 use Rattle.pas_types.proofs.LawfulScopes.{so_far, IsLawfulEntity, variables_in, AreLawful}
 

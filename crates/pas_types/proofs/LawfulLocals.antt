@@ -1,17 +1,16 @@
 -- Variables of a routine that are declared without a fault leave a lawful scope.
-use Rattle.std.proofs.Common.{◌≡◌, refl, sym, ap, subst, ◌∙◌, ℕ, zero, suc, ◌+◌, ◌≤◌, arith, true, List, [], ◌∷◌, ◌++◌}
-use Rattle.std.proofs.Common.{length, map, append_assoc, append-nil, Option, Some, None, IfSome, IsSome}
-use Rattle.std.specs.Prelude.{⊤, slice_get, flat_map}
+use Rattle.std.proofs.Common.{◌≡◌, refl, sym, ap, subst, ◌∙◌, ℕ, ◌≤◌, arith, List, [], ◌∷◌, ◌++◌}
+use Rattle.std.proofs.Common.{length, append_assoc, append-nil, Option, Some, None, IfSome, IsSome}
+use Rattle.std.specs.Prelude.{slice_get, flat_map}
 use Rattle.std.proofs.lemmas.List.{length-append}
 use Rattle.pas_tokens.specs.declared.kinds.Kind.TheVariants as k
-use Rattle.pas_syntax.specs.Tree as tree
 use Rattle.pas_syntax.specs.Tree.{VariableRow, Rows}
 use Rattle.pas_syntax.specs.Words.{words_if, rows_words, variable_row_words, type_words, idents_words}
 use Rattle.pas_typed.specs.Types.{PasType, Table, Made}
 use Rattle.pas_typed.specs.Typed as typed
 use Rattle.pas_typed.specs.Typed.{Home, Mode, Variable, Slot, TypedProgram}
 use Rattle.pas_typed.specs.Lawful.{IsDeclared, variables_of}
-use Rattle.pas_typed.proofs.GrowthLemmas.{Stays, stays_behind, Grows}
+use Rattle.pas_typed.proofs.GrowthLemmas.{stays_behind, Grows}
 use Rattle.pas_types.specs.Marks.{Marks, quiet, Judged, known, noted, faults_if}
 use Rattle.pas_types.specs.Scopes as scope
 use Rattle.pas_types.specs.Scopes.{Entity, Named, Outer, Inner, Scopes, names_of, spellings_of, new_names}
@@ -20,8 +19,8 @@ use Rattle.pas_types.specs.Declarations as spec
 use Rattle.pas_types.specs.Declarations.{InnerStage, routine_scopes}
 use Rattle.pas_types.proofs.CleanLemmas.{Each, each_then, each_append, IsClean, joined_clean, at_last_clean}
 use Rattle.pas_types.proofs.HeldWords.{AreHeld, held_before, held_behind, held_next}
-use Rattle.pas_types.proofs.LawfulScopes.{so_far, IsLawfulEntity, AreLawful}
-use Rattle.pas_types.proofs.KnownForms.{IsPlain, ArePlain, form_known}
+use Rattle.pas_types.proofs.LawfulScopes.{so_far, IsLawfulEntity}
+use Rattle.pas_types.proofs.KnownForms.{IsPlain, form_known}
 use Rattle.pas_types.proofs.LawfulForms.{IsGrown, grown_same, grown_on, IsMade, form_lawful}
 use Rattle.pas_types.proofs.LawfulDeclarations.{IsLawfulOuter, entity_stays, stays_same, slice_at, slots_plain}
 use Rattle.pas_types.proofs.LawfulDeclarations.{more_rows_lawful, within_lawful, within_plain}

@@ -1,32 +1,30 @@
 -- The typed program of a program without faults is lawful.
-use Rattle.std.proofs.Common.{◌≡◌, refl, sym, ap, subst, ◌∙◌, ℕ, suc, ◌+◌, ◌<◌, arith, true, List, [], ◌∷◌, ◌++◌}
+use Rattle.std.proofs.Common.{◌≡◌, refl, sym, ap, subst, ◌∙◌, ℕ, ◌<◌, arith, true, List, [], ◌∷◌, ◌++◌}
 use Rattle.std.proofs.Common.{length}
 use Rattle.std.proofs.Common.{ap₂, append_assoc, ◌||◌}
 use Rattle.std.proofs.lemmas.List.Folds.{list_any-append}
-use Rattle.std.proofs.Common.{map, append-nil, Option, Some, None, IfSome, IsSome, All, find, ◌==◌}
-use Rattle.std.specs.Prelude.{⊤, fold, slice_get, filter, flat_map, option_to_list, position, if◌then◌else◌, Bool}
+use Rattle.std.proofs.Common.{map, append-nil, Option, Some, None, IfSome}
+use Rattle.std.specs.Prelude.{fold, slice_get, filter, flat_map, if◌then◌else◌, Bool}
 use Rattle.std.specs.Prelude.{false}
 use Rattle.std.specs.Str.{bytes_eq}
 use Rattle.std.proofs.lemmas.Option.{none-some, same_Some}
 use Rattle.std.proofs.lemmas.List.{length-append, length-map}
 use Rattle.std.proofs.lemmas.List.Elements.{All-from_recursion}
-use Rattle.wb_base.specs.declared.faults.Fault.{Fault}
 use Rattle.wb_base.specs.declared.faults.TheConstants.{UNKNOWN_NAME}
 use Rattle.pas_tokens.specs.declared.kinds.Kind.TheVariants as k
 use Rattle.pas_tokens.specs.Cutting.{Wrong, wrong}
-use Rattle.pas_tokens.specs.Tokens.{fault_in}
 use Rattle.pas_syntax.specs.Tree.{Program, Rows, VariableRow}
 use Rattle.pas_syntax.specs.Words.{Word, program_words, program_parameters_words, labels_words, rows_words}
 use Rattle.pas_syntax.specs.Words.{constant_row_words, type_row_words, variable_row_words, routine_words, words_if}
 use Rattle.pas_syntax.specs.Words.{compound_words, statements_words, at}
-use Rattle.pas_typed.specs.Types.{PasType, Table, text, Made}
+use Rattle.pas_typed.specs.Types.{Table, text, Made}
 use Rattle.pas_typed.specs.Typed as typed
 use Rattle.pas_typed.specs.Typed.{Variable, Heading, Body, Statements, TypedProgram}
 use Rattle.pas_typed.specs.Lawful as typed_law
 use Rattle.pas_typed.specs.Lawful.{IsLawful, IsLawfulBody, IsOrdinal}
 use Rattle.pas_typed.proofs.GrowthLemmas.{Grows, list_stays}
-use Rattle.pas_types.specs.Marks.{Marks, quiet, shows, first_of, at_first, followed, joined, unless, Judged, both}
-use Rattle.pas_types.specs.Marks.{lowest, first_fault}
+use Rattle.pas_types.specs.Marks.{Marks, quiet, shows, first_of, at_first, followed, joined, Judged, both}
+use Rattle.pas_types.specs.Marks.{first_fault}
 use Rattle.pas_types.specs.Scopes.{KnownRoutine, Outer, contains, standard_names, spellings_of}
 use Rattle.pas_types.specs.TypeForms.{form_of}
 use Rattle.pas_types.specs.Labels.{labels_of_list}
@@ -38,9 +36,8 @@ use Rattle.pas_types.specs.Routines.{label_missing, RoutineStage, routines_of}
 use Rattle.pas_types.specs.NameViews.{with_name}
 use Rattle.pas_types.specs.Check as spec
 use Rattle.pas_types.specs.Check.{start, checked_of, fault_of, Means}
-use Rattle.pas_types.proofs.AsMany.{AsMany}
 use Rattle.pas_types.proofs.CheckLemmas.{program_many}
-use Rattle.pas_types.proofs.CleanLemmas.{Each, each_then, AreStill, IsClean, joined_clean, no_faults, some_fault, holds}
+use Rattle.pas_types.proofs.CleanLemmas.{Each, each_then, AreStill, IsClean, joined_clean, no_faults, holds}
 use Rattle.pas_types.proofs.HeldWords.{AreHeld, held_before, held_behind}
 use Rattle.pas_types.proofs.LawfulScopes.{so_far, IsLawfulHeading}
 use Rattle.pas_types.proofs.LawfulDeclarations.{IsLawfulOuter, LeavesLawful, rows_leave, constant_row_lawful}

@@ -1,5 +1,5 @@
 -- Routines that show no fault have lawful bodies.
-use Rattle.std.proofs.Common.{◌≡◌, refl, sym, ap, subst, ◌∙◌, ℕ, zero, suc, ◌+◌, ◌<◌, ◌&&◌, arith, Bool, true, false}
+use Rattle.std.proofs.Common.{◌≡◌, refl, sym, ap, subst, ◌∙◌, ℕ, zero, suc, ◌<◌, ◌&&◌, arith, Bool, true, false}
 use Rattle.std.proofs.Common.{List, [], ◌∷◌, ◌++◌, length, map, Option, Some, None, IfSome, IsSome, is_some, inl, inr}
 use Rattle.std.specs.Prelude.{⊤, slice_get, flat_map, option_map, option_and_then, not, nat_lt, if◌then◌else◌}
 use Rattle.std.proofs.lemmas.List.{map-append}
@@ -12,7 +12,7 @@ use Rattle.pas_tokens.specs.Cutting.{Wrong, wrong}
 use Rattle.pas_syntax.specs.Tree as tree
 use Rattle.pas_syntax.specs.Tree.{Ident, Behind, TypeName, Parameter, Parameters, Compound, Labels, VariableRow, Rows}
 use Rattle.pas_syntax.specs.Tree.{Routine}
-use Rattle.pas_syntax.specs.Words.{Word, words_if, maybe, parameter_words, parameters_words, type_name_words}
+use Rattle.pas_syntax.specs.Words.{words_if, maybe, parameter_words, parameters_words, type_name_words}
 use Rattle.pas_syntax.specs.Words.{result_words, heading_words, body_words, routine_words, labels_words, compound_words}
 use Rattle.pas_syntax.specs.Words.{separated, idents_words, at, rows_words, variable_row_words, statements_words}
 use Rattle.pas_typed.specs.Types.{PasType, Table, Made, range_of}
@@ -22,7 +22,7 @@ use Rattle.pas_typed.specs.Typed.{Mode, Variable, Heading, Body, TypedProgram}
 use Rattle.pas_typed.specs.Lawful.{IsOrdinal, IsLawfulBody, AreDeclared}
 use Rattle.pas_typed.specs.Lawful as typed_law
 use Rattle.pas_typed.proofs.GrowthLemmas.{Stays, stays_behind, Grows, list_stays}
-use Rattle.pas_types.specs.Marks.{unless, Marks, quiet, no_token, shows, joined, Judged, known, both, checked, noted}
+use Rattle.pas_types.specs.Marks.{unless, Marks, quiet, no_token, shows, joined, Judged, known, checked, noted}
 use Rattle.pas_types.specs.Marks.{faults_if}
 use Rattle.pas_types.specs.Scopes as scope
 use Rattle.pas_types.specs.declared.limits.TheConstants.{ROUTINE_LIMIT}
@@ -37,17 +37,17 @@ use Rattle.pas_types.specs.Statements.{statements_of}
 use Rattle.pas_types.specs.Routines as spec
 use Rattle.pas_types.specs.Routines.{Sort, procedure, function, HeadingParts, Formal, HeadingStage, RoutineStage}
 use Rattle.pas_types.proofs.TypesAsMany.{type_named_many}
-use Rattle.pas_types.proofs.CleanLemmas.{Each, each_then, each_append, IsClean, Lawfully, joined_clean, at_last_clean}
-use Rattle.pas_types.proofs.CleanLemmas.{checked_value, checked_clean, at_first_clean, no_faults, some_fault, holds}
+use Rattle.pas_types.proofs.CleanLemmas.{Each, each_then, each_append, IsClean, joined_clean, at_last_clean}
+use Rattle.pas_types.proofs.CleanLemmas.{checked_value, some_fault, holds}
 use Rattle.pas_types.proofs.CleanLemmas.{known_if, both_if}
 use Rattle.pas_types.proofs.HeldWords.{AreHeld, held_before, held_behind, held_next}
 use Rattle.pas_types.proofs.LawfulScopes.{so_far, IsLawfulEntity, IsParameter, IsLawfulHeading, AreLawful}
-use Rattle.pas_types.proofs.KnownForms.{Known, IsPlain, ArePlain, named_known, made_known, checked_known, left_out_held}
-use Rattle.pas_types.proofs.LawfulForms.{IsGrown, named_lawful}
+use Rattle.pas_types.proofs.KnownForms.{Known, ArePlain, named_known, made_known, checked_known, left_out_held}
+use Rattle.pas_types.proofs.LawfulForms.{named_lawful}
 use Rattle.pas_types.proofs.LawfulDeclarations.{IsLawfulOuter, IsNamed, entity_stays, stays_same, slots_plain}
 use Rattle.pas_types.proofs.LawfulDeclarations.{more_rows_lawful, with_name_lawful, within_lawful, within_plain}
 use Rattle.pas_types.proofs.LawfulDeclarations.{slice_at, grows_same, grows_on}
-use Rattle.pas_types.proofs.LawfulLocals.{IsInside, IsLawfulInner, IsDeclaredOne, LeavesInner, with_locals_lawful}
+use Rattle.pas_types.proofs.LawfulLocals.{IsLawfulInner, IsDeclaredOne, LeavesInner, with_locals_lawful}
 use Rattle.pas_types.proofs.LawfulLocals.{locals_lawful, local_rows_lawful}
 use Rattle.pas_types.proofs.LawfulStatements.{statements_lawful}
 

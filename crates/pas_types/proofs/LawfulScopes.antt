@@ -1,6 +1,6 @@
 -- Scopes of which the names stand for what the program declares so far.
 use Rattle.std.proofs.Common.{◌≡◌, ◌⊎◌, ℕ, List, [], length, map, Option, Some, None, IfSome, IsTrue}
-use Rattle.std.specs.Prelude.{⊤, option_map, option_and_then, slice_get}
+use Rattle.std.specs.Prelude.{⊤, option_and_then}
 use Rattle.pas_typed.specs.Types.{PasType, Table, all_of, is_within}
 use Rattle.pas_typed.specs.Typed as typed
 use Rattle.pas_typed.specs.Typed.{Variable, Heading, TypedProgram}

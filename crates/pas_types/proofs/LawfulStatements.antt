@@ -1,6 +1,6 @@
 -- Statements that show no fault are lawful in the program as far as it is declared.
-use Rattle.std.proofs.Common.{◌≡◌, refl, sym, ap, subst, ◌∙◌, ℕ, ◌+◌, ◌==◌, ◌&&◌, Bool, true, false, not, ℤ, List, []}
-use Rattle.std.proofs.Common.{◌∷◌, ◌++◌, Option, Some, None, IfSome, IsSome, is_some, eqb-true}
+use Rattle.std.proofs.Common.{◌≡◌, refl, sym, ap, ◌∙◌, ℕ, ◌+◌, ◌==◌, ◌&&◌, Bool, true, false, ℤ, List, []}
+use Rattle.std.proofs.Common.{◌∷◌, ◌++◌, Option, Some, None, IfSome, is_some, eqb-true}
 use Rattle.std.proofs.lemmas.Option.{IfSome_then}
 use Rattle.std.specs.Prelude.{⊤, if◌then◌else◌, option_and_then, length, nat_lt}
 use Rattle.wb_base.specs.declared.faults.TheConstants.{WRONG_TYPE, WRONG_LABEL}
@@ -9,7 +9,7 @@ use Rattle.pas_syntax.specs.declared.operators.Way.{Way}
 use Rattle.pas_syntax.specs.Tree as tree
 use Rattle.pas_syntax.specs.Tree.{Expr, Plain, Elements, Others}
 use Rattle.pas_syntax.specs.Words.{maybe, expr_words, variable_words, plain_words, statement_words, statements_words}
-use Rattle.pas_syntax.specs.Words.{elements_words, others_words, words_if, arguments_words, separated, constant_words}
+use Rattle.pas_syntax.specs.Words.{elements_words, others_words, separated, constant_words}
 use Rattle.pas_tokens.specs.declared.kinds.Kind.TheVariants as k
 use Rattle.pas_typed.specs.Types.{Base, boolean, PasType, Table, range_of}
 use Rattle.pas_typed.specs.Typed as typed
@@ -27,10 +27,9 @@ use Rattle.pas_types.specs.Labels as labels
 use Rattle.pas_types.specs.Labels.{Spot, in_list, elsewhere, labels_at, labels_in_list, labels_in_elements}
 use Rattle.pas_types.specs.Labels.{labels_of_list}
 use Rattle.pas_types.specs.Expressions.{only, ordinal_only, value_of, place_of, heading_of}
-use Rattle.pas_types.specs.Calls as calls
 use Rattle.pas_types.specs.Statements as spec
 use Rattle.pas_types.specs.Statements.{Target, plain_of, statement_of, statements_of, arms_of, others_of}
-use Rattle.pas_types.proofs.CleanLemmas.{Each, IsClean, Lawfully, joined_clean, holds, known_if, both_if, checked_if}
+use Rattle.pas_types.proofs.CleanLemmas.{Each, IsClean, Lawfully, joined_clean, known_if, both_if, checked_if}
 use Rattle.pas_types.proofs.HeldWords.{AreHeld, held_before, held_behind, held_next}
 use Rattle.pas_types.proofs.LawfulScopes.{so_far, IsLawfulEntity, IsLawfulHeading, result_in, variables_in, AreLawful}
 use Rattle.pas_types.proofs.LawfulValues as value_law

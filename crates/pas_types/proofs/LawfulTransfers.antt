@@ -1,9 +1,9 @@
 -- Calls of procedures that show no fault are lawful: of routines, of the steps of files, and of those that read and
 -- write.
-use Rattle.std.proofs.Common.{◌≡◌, refl, sym, ap, subst, ◌∙◌, ℕ, suc, ◌+◌, ◌<◌, ◌≤◌, arith, ◌&&◌, ◌||◌}
-use Rattle.std.proofs.Common.{Bool, true, false, not, List, [], ◌∷◌, ◌++◌, length, map, Option, Some, None, IfSome}
+use Rattle.std.proofs.Common.{◌≡◌, refl, sym, ap, subst, ◌∙◌, ℕ, ◌+◌, ◌&&◌, ◌||◌}
+use Rattle.std.proofs.Common.{Bool, true, false, not, List, [], ◌∷◌, ◌++◌, map, Option, Some, None, IfSome}
 use Rattle.std.proofs.Common.{IsSome, is_some, All}
-use Rattle.std.specs.Prelude.{⊤, if◌then◌else◌, option_and_then, slice_get, codes, flat_map}
+use Rattle.std.specs.Prelude.{if◌then◌else◌, option_and_then, slice_get, codes, flat_map}
 use Rattle.std.proofs.lemmas.Option.{IfSome_then, same_Some}
 use Rattle.std.proofs.lemmas.List.Elements.{All-from_recursion}
 use Rattle.wb_base.specs.declared.faults.TheConstants.{WRONG_TYPE, READING_NUMBERS}
@@ -13,15 +13,14 @@ use Rattle.pas_syntax.specs.Tree as tree
 use Rattle.pas_syntax.specs.Tree.{Behind, Expr, Separated}
 use Rattle.pas_syntax.specs.Parse.{left_out}
 use Rattle.pas_syntax.specs.Words.{at, separated, expr_words, argument_words, arguments_words, width_words, words_if}
-use Rattle.pas_typed.specs.Types.{integer, char, PasType, same_type, text, Table, component_of, is_of, are_compatible}
-use Rattle.pas_typed.specs.Shapes.{IsLawfulTable}
+use Rattle.pas_typed.specs.Types.{integer, char, PasType, Table, component_of, is_of, are_compatible}
 use Rattle.pas_typed.specs.Typed as typed
 use Rattle.pas_typed.specs.Typed.{FileStep, Slot, Value, Place, Item, Statement, Heading, Variable, TypedProgram}
 use Rattle.pas_typed.specs.TypeOf.{type_of, type_of_place}
 use Rattle.pas_typed.specs.Lawful.{IsOrdinal, IsFile, IsLawfulValue, IsLawfulPlace, IsLawfulNumber, IsLawfulFile}
 use Rattle.pas_typed.specs.Lawful.{IsLawfulTarget, IsLawfulItem, IsLawfulStatement, ArePassed}
 use Rattle.pas_typed.proofs.ShapeLemmas.{component-ordinal}
-use Rattle.pas_types.specs.Marks.{Marks, quiet, shows, joined, listed, unless, Judged, judged, known, both, all_known}
+use Rattle.pas_types.specs.Marks.{quiet, shows, listed, unless, Judged, judged, both}
 use Rattle.pas_types.specs.Marks.{checked}
 use Rattle.pas_types.specs.Scopes as scope
 use Rattle.pas_types.specs.Scopes.{Entity, Procedure, Inner, Scopes, entity_of, standard_file}
@@ -32,7 +31,7 @@ use Rattle.pas_types.specs.Calls.{Actual, Extent, items_alone, whole_line, Trans
 use Rattle.pas_types.proofs.CleanLemmas.{Each, IsClean, Lawfully, joined_clean, listed_clean, holds, known_if, both_if}
 use Rattle.pas_types.proofs.CleanLemmas.{checked_clean, checked_if, all_known_if, each_before, each_behind, each_map}
 use Rattle.pas_types.proofs.CleanLemmas.{some_fault}
-use Rattle.pas_types.proofs.HeldWords.{AreHeld, held_before, held_behind, held_next}
+use Rattle.pas_types.proofs.HeldWords.{AreHeld, held_before, held_behind}
 use Rattle.pas_types.proofs.LawfulScopes.{so_far, IsLawfulHeading, result_in, variables_in, AreLawful}
 use Rattle.pas_types.proofs.LawfulValues as value_law
 use Rattle.pas_types.proofs.LawfulValues.{only_ordinal, is_ordinal, takes, takes_if, ordinal_taken, both_true}

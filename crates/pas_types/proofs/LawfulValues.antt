@@ -1,5 +1,5 @@
 -- Values and places that show no fault are lawful in the program as far as it is declared.
-use Rattle.std.proofs.Common.{◌≡◌, ◌⊎◌, inl, inr, refl, sym, ap, subst, ◌∙◌, ℕ, suc, ◌+◌, ◌<◌, ◌≤◌, arith, ◌&&◌}
+use Rattle.std.proofs.Common.{◌≡◌, inl, inr, refl, sym, ap, subst, ◌∙◌, ℕ, ◌+◌, ◌<◌, ◌≤◌, arith, ◌&&◌}
 use Rattle.std.proofs.Common.{Bool, true, false, not, List, [], ◌∷◌, ◌++◌, length, map, Option, Some, None, IfSome}
 use Rattle.std.proofs.Common.{IsSome, is_some, pos, neg_ℤ, int_le, IsTrue, IsFalse, eqb-true}
 use Rattle.std.proofs.Common.{ap₂, ℤ, ◌≤ℤ◌, T}
@@ -8,13 +8,8 @@ use Rattle.pas_tokens.specs.declared.limits.TheConstants.{GREATEST_NUMBER}
 use Rattle.std.specs.Prelude.{⊤, ◌==◌, nat_le, if◌then◌else◌, option_map, option_and_then, slice_get, position, codes}
 use Rattle.std.specs.Str.{bytes_eq}
 use Rattle.std.proofs.lemmas.Option.{slice_get-map, IfSome_then, same_Some}
-use Rattle.wb_base.specs.declared.faults.TheConstants.{UNKNOWN_NAME, WRONG_TYPE, FILE_RULE}
-use Rattle.pas_tokens.specs.declared.kinds.Kind.TheVariants as k
+use Rattle.wb_base.specs.declared.faults.TheConstants.{WRONG_TYPE, FILE_RULE}
 use Rattle.pas_tokens.specs.Cutting.{Wrong, wrong}
-use Rattle.pas_syntax.specs.declared.operators.Sign.{Sign}
-use Rattle.pas_syntax.specs.declared.operators.Multiplying.{Multiplying}
-use Rattle.pas_syntax.specs.declared.operators.Adding.{Adding}
-use Rattle.pas_syntax.specs.declared.operators.Relation.{Relation}
 use Rattle.pas_syntax.specs.Tree as tree
 use Rattle.pas_syntax.specs.Tree.{Ident, Expr, Sum, Term, Factor, Exprs}
 use Rattle.pas_syntax.specs.Words.{Word, expr_words, sum_words, term_words, factor_words, variable_words, exprs_words}
@@ -25,9 +20,9 @@ use Rattle.pas_typed.specs.Types.{Field, ArrayParts, Table, same_base}
 use Rattle.pas_typed.specs.Typed as typed
 use Rattle.pas_typed.specs.Typed.{Function, FileTest, Mode, Variable, Slot, Value, Place, Passed, Heading, TypedProgram}
 use Rattle.pas_typed.specs.TypeOf.{type_of, type_of_place, is_buffer}
-use Rattle.pas_typed.specs.Lawful.{IsOrdinal, IsFile, field_type, Takes, IsLawfulSlot, IsLawfulValue, IsLawfulPlace}
-use Rattle.pas_typed.specs.Lawful.{ArePassed, IsNumber}
-use Rattle.pas_types.specs.Marks.{Marks, no_token, quiet, shows, joined, listed, unless, Judged, judged, known, both}
+use Rattle.pas_typed.specs.Lawful.{IsOrdinal, IsFile, Takes, IsLawfulSlot, IsLawfulValue, IsLawfulPlace}
+use Rattle.pas_typed.specs.Lawful.{ArePassed}
+use Rattle.pas_types.specs.Marks.{quiet, shows, joined, listed, unless, Judged, judged, known, both}
 use Rattle.pas_types.specs.Marks.{checked, noted}
 use Rattle.pas_types.specs.Scopes as scope
 use Rattle.pas_types.specs.Scopes.{Entity, Scopes, entity_of, standard_file, global_text, is_global}
@@ -38,7 +33,7 @@ use Rattle.pas_types.specs.Expressions.{factor_of, variable_value, place_of, ele
 use Rattle.pas_types.proofs.AsMany.{AsMany}
 use Rattle.pas_types.proofs.ExpressionsAsMany.{sum_many, term_many, factor_many}
 use Rattle.pas_types.proofs.ExpressionWords.{sum_some, term_some, factor_some}
-use Rattle.pas_types.proofs.CleanLemmas.{Each, IsClean, Lawfully, joined_clean, listed_clean, at_first_clean, holds}
+use Rattle.pas_types.proofs.CleanLemmas.{Each, IsClean, Lawfully, joined_clean, listed_clean, holds}
 use Rattle.pas_types.proofs.CleanLemmas.{known_if, both_if, checked_if, noted_if, some_fault, never_behind, each_append}
 use Rattle.pas_types.proofs.HeldWords.{AreHeld, held_before, held_next}
 use Rattle.pas_types.proofs.LawfulScopes.{so_far, IsLawfulEntity, IsParameter, IsLawfulHeading, variables_in, AreLawful}

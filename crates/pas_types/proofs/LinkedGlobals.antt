@@ -1,15 +1,13 @@
 -- Behind declarations that show no fault the name of each variable of the program stands for it.
 use Rattle.std.proofs.Common.{◌≡◌, refl, sym, ap, subst, ◌∙◌, ℕ, suc, ◌+◌, arith, ◌||◌, Bool, true, false, not, List}
 use Rattle.std.proofs.Common.{[]}
-use Rattle.std.proofs.Common.{◌∷◌, ◌++◌, length, map, append_assoc, append-nil, Option, Some, None, IfSome, IsSome}
+use Rattle.std.proofs.Common.{◌∷◌, ◌++◌, length, map, append_assoc, Option, Some, None, IsSome}
 use Rattle.std.proofs.Common.{is_some, find}
 use Rattle.std.specs.Prelude.{⊤, if◌then◌else◌, option_map, flat_map}
 use Rattle.std.specs.Str.{bytes_eq}
-use Rattle.std.specs.List.{list_any}
 use Rattle.std.proofs.lemmas.List.{map-append}
 use Rattle.std.proofs.lemmas.List.Folds.{list_any-append}
 use Rattle.std.proofs.lemmas.Slice.Eq.{bytes_eq-Decides}
-use Rattle.std.proofs.lemmas.Bool.Decides.{when_true}
 use Rattle.wb_base.specs.declared.faults.TheConstants.{DUPLICATE_NAME}
 use Rattle.pas_tokens.specs.declared.kinds.Kind.{Kind}
 use Rattle.pas_tokens.specs.Cutting.{wrong}
@@ -17,11 +15,10 @@ use Rattle.pas_syntax.specs.Tree as tree
 use Rattle.pas_syntax.specs.Tree.{Ident, Idents, Rows, Routine}
 use Rattle.pas_syntax.specs.Words.{Word, words_if, rows_words, constant_row_words, type_row_words, variable_row_words}
 use Rattle.pas_syntax.specs.Words.{type_words, idents_words}
-use Rattle.pas_typed.specs.Types.{PasType, Table, Made}
+use Rattle.pas_typed.specs.Types.{PasType, Made}
 use Rattle.pas_typed.specs.Typed as typed
 use Rattle.pas_typed.specs.Typed.{Variable, Heading}
 use Rattle.pas_types.specs.Marks.{quiet, Judged, noted, faults_if}
-use Rattle.pas_types.specs.Scopes as scope
 use Rattle.pas_types.specs.Scopes.{Entity, variable, Named, names, Outer, entity_in, or_else, contains, names_of}
 use Rattle.pas_types.specs.Scopes.{idents_of, spellings_of, each_new, new_names, standard_names}
 use Rattle.pas_types.specs.TypeForms.{form_of}

@@ -1,5 +1,5 @@
 -- What stands behind the heading of a routine, and what is answered of the routine by that.
-use Rattle.std.proofs.Common.{◌≡◌, refl, sym, ap, subst, ◌∙◌, ℕ, Bool, true, false, List, [], ◌∷◌, ◌++◌, map}
+use Rattle.std.proofs.Common.{◌≡◌, refl, sym, ap, subst, ◌∙◌, ℕ, Bool, true, false, List, [], ◌∷◌, ◌++◌}
 use Rattle.std.proofs.Common.{Option, Some, None, IsSome, Result, Ok, Err}
 use Rattle.std.specs.Prelude.{not, is_some, is_none, IfOk, OnErr}
 use Rattle.wb_base.specs.declared.faults.TheConstants.{WRONG_TYPE}
@@ -22,7 +22,7 @@ use Rattle.pas_types.specs.inner.Stopping.{demanded, shown_in}
 use Rattle.pas_types.specs.inner.Answers.{FailsBy, IsQuiet}
 use Rattle.pas_types.specs.inner.RoutineAnswers.{Heads, IsReady, awaited_at, parts_words}
 use Rattle.pas_types.specs.inner.RoutineStands.{IsNamed}
-use Rattle.pas_types.specs.inner.BlockAnswers.{block_marks, block_words, IsBlock, Goes, IsRoutine}
+use Rattle.pas_types.specs.inner.BlockAnswers.{block_marks, block_words, IsBlock, IsRoutine}
 use Rattle.pas_types.proofs.AsMany.{AsMany, all, one, next_word}
 use Rattle.pas_types.proofs.SettleLemmas.{quiet_word, quiet_behind, quiet_alone}
 use Rattle.pas_types.proofs.LocalRowLemmas.{fails_front, fails_behind}

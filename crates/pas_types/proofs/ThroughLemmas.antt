@@ -1,13 +1,11 @@
 -- Routines that were gone through one after another.
-use Rattle.std.proofs.Common.{◌≡◌, refl, sym, ap, subst, ◌∙◌, ℕ, ◌+◌, ◌<◌, ◌≤◌, List, [], ◌∷◌, ◌++◌, map, length, take}
-use Rattle.std.proofs.Common.{get_or, Option, Some, None, Result, Ok, Err}
+use Rattle.std.proofs.Common.{◌≡◌, refl, sym, ap, subst, ◌∙◌, ℕ, List, [], ◌∷◌, ◌++◌, map, length}
+use Rattle.std.proofs.Common.{Option, Some, None, Result, Ok, Err}
 use Rattle.std.specs.Prelude.{flat_map, option_to_list, option_map}
-use Rattle.std.proofs.lemmas.List.{append_assoc, append-nil, map-append, take_more, take_all}
+use Rattle.std.proofs.lemmas.List.{append_assoc, append-nil, map-append}
 use Rattle.wb_base.specs.declared.faults.Fault.{Fault}
 use Rattle.pas_syntax.specs.Tree.{Routine}
 use Rattle.pas_syntax.specs.Words.{Word, routine_words}
-use Rattle.pas_syntax.specs.ProgramViews.{routine_in}
-use Rattle.pas_syntax.specs.declared.tree.Routine.{Routine as CodeRoutine}
 use Rattle.pas_typed.specs.declared.typed.Body.{Body as CodeBody}
 use Rattle.pas_typed.specs.Types.{Table}
 use Rattle.pas_typed.specs.Typed as typed
@@ -20,14 +18,14 @@ use Rattle.pas_types.specs.Scopes.{Named, Outer, unclear, entity_in}
 use Rattle.pas_types.specs.Declarations.{program_scopes}
 use Rattle.pas_types.specs.Routines.{RoutineStage, routine_of, routines_of}
 use Rattle.pas_types.specs.NameViews.{with_new}
-use Rattle.pas_types.specs.ScopeViews.{outer_view, scopes_view, IsClear}
+use Rattle.pas_types.specs.ScopeViews.{outer_view, IsClear}
 use Rattle.pas_types.specs.inner.Declared.{IsDeclared, IsAlike, IsCounted, AreFiled, Notes}
 use Rattle.pas_types.specs.inner.Locals.{AreWaiting}
 use Rattle.pas_types.specs.inner.RoutineAnswers.{IsReady, GoesThrough, IsBehind}
-use Rattle.pas_types.specs.inner.BlockAnswers.{IsRoutine, Goes}
+use Rattle.pas_types.specs.inner.BlockAnswers.{IsRoutine}
 use Rattle.pas_types.specs.inner.RoutineStands.{masked, IsHeldIf, IsNoted, StandsFor, IsNamed, Steps}
-use Rattle.pas_types.proofs.AsMany.{AsMany, all}
-use Rattle.pas_types.proofs.RoutinesAsMany.{routine_many, routines_many}
+use Rattle.pas_types.proofs.AsMany.{all}
+use Rattle.pas_types.proofs.RoutinesAsMany.{routines_many}
 use Rattle.pas_types.proofs.PartLemmas.{alone}
 use Rattle.pas_types.proofs.SettleLemmas.{nothing_shown}
 use Rattle.pas_types.proofs.DeclaredLemmas.{notes_behind, notes_quiet}

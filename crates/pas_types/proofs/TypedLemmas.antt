@@ -28,7 +28,7 @@ module _ (tree : ProgramTree) (spellings : List ℕ) (begun new : CodeScopes) (a
   abbrev program : Program
   program = program_in spellings tree
 
-  labels_if : LabelsIf program.labels labels a
+  abbrev labels_if : LabelsIf program.labels labels a
   labels_if = subst (λ (p : Option CodeLabels). LabelsIf (if_there (labels_in spellings) p) labels a) part_is labels_seen
 
   noted : Notes (words_if labels_words program.labels) (label_marks program.labels) None a

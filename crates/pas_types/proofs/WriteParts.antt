@@ -22,11 +22,11 @@ use Rattle.pas_types.specs.Marks.{Marks, Judged, known}
 use Rattle.pas_types.specs.Scopes.{Scopes, procedure, write, writeln}
 use Rattle.pas_types.specs.Expressions.{met}
 use Rattle.pas_types.specs.Calls.{Actual, without_width, Extent, items_alone, whole_line, demand_on_file, output}
-use Rattle.pas_types.specs.Calls.{is_text, write_items, write_bytes, write_text, write_with, whole_file, procedure_of}
+use Rattle.pas_types.specs.Calls.{write_items, write_bytes, write_text, write_with, whole_file, procedure_of}
 use Rattle.pas_types.specs.Calls.{Transfer, on_named, on_standard, transfer_by, transfer_of, missing_items}
 use Rattle.pas_types.specs.inner.Stopping.{shown_in}
 use Rattle.pas_types.specs.inner.Answers.{FailsBy, ShowsBy, IsQuiet, Means}
-use Rattle.pas_types.specs.inner.Listed.{Item, item_words, items_marks, item_at, items_behind, Gathered, FailsWithin}
+use Rattle.pas_types.specs.inner.Listed.{Item, item_at, items_behind, Gathered, FailsWithin}
 use Rattle.pas_types.specs.inner.Transfers.{writing, extent_view, refused_by, item_written, writes_by, IsOnText}
 use Rattle.pas_types.proofs.AsMany.{AsMany}
 use Rattle.pas_types.proofs.CallsAsMany.{call_many}

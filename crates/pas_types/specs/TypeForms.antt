@@ -1,6 +1,6 @@
 -- Constants and type expressions (ISO 7185, 6.3 and 6.4, in this project's profile): what they mean, and the faults of
 -- their tokens.
-use Rattle.std.specs.Prelude.{ℕ, ◌==◌, nat_le, ℤ, pos, neg_ℤ, int_le, Bool, true, false, not}
+use Rattle.std.specs.Prelude.{ℕ, nat_le, ℤ, pos, neg_ℤ, int_le, Bool, true, false, not}
 use Rattle.std.specs.Prelude.{if◌then◌else◌, List, [], ◌∷◌, ◌++◌, map, codes, Option, Some, None, option_map}
 use Rattle.std.specs.Prelude.{is_some, unwrap_or, option_to_list}
 use Rattle.std.specs.Str.{bytes_eq}

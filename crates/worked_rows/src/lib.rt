@@ -19,6 +19,8 @@ mod pascal_grammar;
 #[cfg(test)]
 mod pascal_tokens;
 #[cfg(test)]
+mod pascal_types;
+#[cfg(test)]
 mod pools;
 #[cfg(test)]
 mod run_files;

@@ -142,19 +142,19 @@ fn reads_texts(rt: HostRuntime) -> Result<(), Fail> {
 
 // A text of a front, a part so many times, a middle, another part so many times, and a back; and its fault.
 #[derive(Clone, Copy)]
-struct Nested {
-    front: &'static [u8],
-    part: &'static [u8],
-    times: usize,
-    middle: &'static [u8],
-    other: &'static [u8],
-    back: &'static [u8],
-    code: u16,
-    which: u8,
+pub(crate) struct Nested {
+    pub(crate) front: &'static [u8],
+    pub(crate) part: &'static [u8],
+    pub(crate) times: usize,
+    pub(crate) middle: &'static [u8],
+    pub(crate) other: &'static [u8],
+    pub(crate) back: &'static [u8],
+    pub(crate) code: u16,
+    pub(crate) which: u8,
 }
 
 // The text of a row.
-fn text_of(alloc: Global, row: Nested) -> Result<Text, OutOfMemory> {
+pub(crate) fn text_of(alloc: Global, row: Nested) -> Result<Text, OutOfMemory> {
     let mut text = Text::new(alloc);
     text.push_all(row.front)?;
     for _ in 0..row.times {

@@ -4,13 +4,13 @@ use Rattle.std.specs.Str.{bytes_eq}
 use Rattle.wb_base.specs.declared.faults.TheConstants.{ENUMERATIONS, SETS, POINTERS, ROUTINES_AS_PARAMETERS}
 use Rattle.pas_tokens.specs.declared.kinds.Kind.{Kind}
 use Rattle.pas_tokens.specs.declared.kinds.Kind.TheVariants as k
-use Rattle.pas_tokens.specs.Cutting.{Payload, nothing, value, spelling}
+use Rattle.pas_tokens.specs.Cutting.{Payload, nothing, spelling}
 use Rattle.pas_syntax.specs.Tree as tree
 use Rattle.pas_syntax.specs.Tree.{Ident, Numeral, Behind, Separated, Idents, TypeName, TypeForm, Compound, Labels}
 use Rattle.pas_syntax.specs.Tree.{ConstantRow, TypeRow, VariableRow, Rows, Parameter, Parameters, Heading, Body}
 use Rattle.pas_syntax.specs.Tree.{Routine, ProgramParameters, Program, forward_name}
 use Rattle.pas_syntax.specs.inner.Prog.{Prog, done, fail, look, skip, bind, misplaced, shown, Next, more, ends, turns}
-use Rattle.pas_syntax.specs.inner.Readers.{ident_at, ident}
+use Rattle.pas_syntax.specs.inner.Readers.{ident}
 use Rattle.pas_syntax.specs.inner.Marks.{mark, maybe_mark}
 use Rattle.pas_syntax.specs.inner.TypeReaders.{pushed, single, behind_item, items_by, idents_by, constant, type_form}
 use Rattle.pas_syntax.specs.inner.StatementReaders.{numeral, compound}

@@ -1,10 +1,10 @@
 -- The parts of declarations and programs of the code as those of the readers, and readers of parts as the code has
 -- them.
-use Rattle.std.specs.Prelude.{ℕ, Bool, true, false, List, map, Option}
+use Rattle.std.specs.Prelude.{ℕ, Bool, true, false, List, map}
 use Rattle.std.specs.Str.{bytes_eq}
 use Rattle.pas_tokens.specs.declared.kinds.Kind.{Kind}
 use Rattle.pas_tokens.specs.declared.kinds.Kind.TheVariants as k
-use Rattle.pas_tokens.specs.Cutting.{Payload, nothing, value, spelling}
+use Rattle.pas_tokens.specs.Cutting.{Payload, nothing, spelling}
 use Rattle.pas_syntax.specs.declared.tree.Declarations.{Declarations as CodeDeclarations}
 use Rattle.pas_syntax.specs.declared.tree.ProgramHead.{ProgramHead as CodeProgramHead}
 use Rattle.pas_syntax.specs.declared.tree.Block.{Block}

@@ -1,6 +1,6 @@
 -- The readers of reserved words and signs, by their kind.
 use denote.Enum.Bare.{sameb}
-use Rattle.std.specs.Prelude.{ℕ, Bool, true, false, Option, Some, None}
+use Rattle.std.specs.Prelude.{ℕ, Bool, true, Option, Some, None}
 use Rattle.pas_tokens.specs.contracts.kinds.Kind.{the_type}
 use Rattle.pas_tokens.specs.declared.kinds.Kind.{Kind}
 use Rattle.pas_tokens.specs.Cutting.{Payload, nothing}

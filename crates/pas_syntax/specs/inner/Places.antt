@@ -9,7 +9,7 @@ use Rattle.pas_tokens.specs.Tokens.{Token}
 use Rattle.pas_syntax.specs.declared.stop.Stop.{Stop}
 use Rattle.pas_syntax.specs.declared.stop.Stop.TheVariants as stop
 use Rattle.pas_syntax.specs.declared.reader.Reader.TheInside.{Inside}
-use Rattle.pas_syntax.specs.inner.Prog.{Prog, Out, run, head, misplaced, shown}
+use Rattle.pas_syntax.specs.inner.Prog.{Prog, Out, run, misplaced, shown}
 
 -- a place in a text: the spellings of the whole text, how many tokens stand before it, and those from there on
 pub record Place : Type 0 where

@@ -1,5 +1,5 @@
 -- The readers of expressions, as the code goes. A number of turns bounds each loop and each recursion.
-use Rattle.std.specs.Prelude.{ℕ, zero, suc, ◌+◌, ◌||◌, nat_lt, Bool, true, false, List, [], ◌∷◌, Option, Some, None}
+use Rattle.std.specs.Prelude.{ℕ, zero, suc, ◌+◌, nat_lt, Bool, true, false}
 use Rattle.wb_base.specs.declared.faults.TheConstants.{REAL_NUMBERS, SETS, POINTERS, NESTING_PAST_LIMIT}
 use Rattle.pas_tokens.specs.declared.kinds.Kind.{Kind}
 use Rattle.pas_tokens.specs.declared.kinds.Kind.TheVariants as k
@@ -15,7 +15,7 @@ use Rattle.pas_syntax.specs.declared.operators.Relation.{Relation}
 use Rattle.pas_syntax.specs.declared.operators.Relation.TheVariants as relates
 use Rattle.pas_syntax.specs.Tree as tree
 use Rattle.pas_syntax.specs.Tree.{Ident, Quoted, Expr, Sum, Term, Factor, Variable, Exprs}
-use Rattle.pas_syntax.specs.Words.{depth_of, sum_depth, term_depth}
+use Rattle.pas_syntax.specs.Words.{sum_depth, term_depth}
 use Rattle.pas_syntax.specs.inner.Prog.{Prog, done, fail, look, skip, bind, misplaced, shown, spent, Next, more, ends}
 use Rattle.pas_syntax.specs.inner.Prog.{no, turns}
 

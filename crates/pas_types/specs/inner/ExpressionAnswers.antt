@@ -1,17 +1,13 @@
 -- What functions on expressions answer.
-use Rattle.std.specs.Prelude.{◌≡◌, ℕ, List, [], ◌∷◌, Option, Some, None, Result, Ok, Err}
+use Rattle.std.specs.Prelude.{◌≡◌, [], ◌∷◌, Option, Some, None}
 use Rattle.wb_base.specs.declared.faults.TheConstants.{UNKNOWN_NAME}
 use Rattle.pas_tokens.specs.Cutting.{wrong}
-use Rattle.pas_syntax.specs.Words.{Word}
 use Rattle.pas_typed.specs.declared.typed.Part as code_part
 use Rattle.pas_typed.specs.Typed as typed
 use Rattle.pas_typed.specs.Typed.{Variable, Value, Place, Passed}
 use Rattle.pas_typed.specs.TypedViews.{part_view}
-use Rattle.pas_types.specs.declared.stop.Stop.{Stop}
 use Rattle.pas_types.specs.Marks.{quiet, joined, Judged, judged, means, refuses, known}
 use Rattle.pas_types.specs.TypeForms.{ConstantValue}
-use Rattle.pas_types.specs.inner.Stopping.{stop_before}
-use Rattle.pas_types.specs.inner.Answers.{Means, ShowsBy}
 
 -- an expression between parentheses
 abbrev pub parenthesized_of : Judged Value → Judged Value

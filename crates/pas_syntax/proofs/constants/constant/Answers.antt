@@ -1,5 +1,4 @@
 use Rattle.std.proofs.Common.{◌∙◌, sym, arith}
-use Rattle.pas_syntax.specs.Tree as tree
 use Rattle.pas_syntax.proofs.ConstantSteps.{signed_constant}
 use Rattle.pas_syntax.proofs.constants.constant.Goals as goal
 

@@ -1,7 +1,6 @@
 use Rattle.std.proofs.Common.{◌≡◌, ◌∙◌, refl, sym, ap, subst, arith, ℕ, suc, Ok, ◌+◌, ◌-◌, ◌≤◌, max, List}
 use Rattle.std.proofs.Common.{length, map}
 use Rattle.std.proofs.lemmas.Result.{err_from_is_err_and}
-use Rattle.pas_tokens.specs.declared.kinds.Kind.TheVariants as k
 use Rattle.pas_syntax.specs.declared.limits.TheConstants.{NESTING_LIMIT}
 use Rattle.pas_syntax.specs.Tree as tree
 use Rattle.pas_syntax.specs.Words.{depth_of, sum_depth, term_depth, factor_depth, variable_depth, exprs_depth}
@@ -17,10 +16,10 @@ use Rattle.pas_syntax.specs.inner.Readers.{factor, expr, exprs, variable, behind
 use Rattle.pas_syntax.specs.inner.Readers.{behind_factor, behind_expr, behind_variable, behind_name}
 use Rattle.pas_syntax.specs.inner.Readers.{exprs_by, variable_by, right_bracket_at}
 use Rattle.pas_syntax.specs.inner.Readers.{right_parenthesis_at, ident, quoted}
-use Rattle.pas_syntax.proofs.PlaceLemmas.{returned, stops, goes_on, goes_as, answers, skips, passes, line_of_head}
+use Rattle.pas_syntax.proofs.PlaceLemmas.{returned, stops, goes_on, goes_as, answers, skips, line_of_head}
 use Rattle.pas_syntax.proofs.PlaceLemmas.{kept_no_memory, any_turns, refuses, with_more, ident_further}
 use Rattle.pas_syntax.proofs.PlaceLemmas.{seen_as, still_stops}
-use Rattle.pas_syntax.proofs.DeepLemmas.{too_deep, within, made, made_as, at_depth, one_more, deeper, made_depth}
+use Rattle.pas_syntax.proofs.DeepLemmas.{too_deep, within, made_as, at_depth, one_more, deeper, made_depth}
 use Rattle.pas_syntax.proofs.DeepLemmas.{one_sign, no_depth, most_deep, swap_deep, more_selected}
 use Rattle.pas_syntax.proofs.SoFar.{SoFar, begun, begun_behind, turned, turn_stops, loop_ends}
 use Rattle.pas_syntax.proofs.ExprViews.{sum_view, first_term_view, signed_term_view, first_factor_view}

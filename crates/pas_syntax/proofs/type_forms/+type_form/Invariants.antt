@@ -1,8 +1,5 @@
 use Rattle.std.proofs.Common.{◌+◌, ◌-◌, ◌*◌, length, ℕ, None}
 use Rattle.pas_syntax.specs.declared.limits.TheConstants.{NESTING_LIMIT}
-use Rattle.pas_syntax.specs.declared.tree.FieldGroup as code_group
-use Rattle.pas_syntax.specs.declared.tree.MoreFields as code_more
-use Rattle.pas_syntax.specs.Tree as tree
 use Rattle.pas_syntax.specs.inner.TypeReaders.{fields_by, behind_fields, type_form}
 use Rattle.pas_syntax.specs.inner.TypeViews.{fields_in}
 use Rattle.pas_syntax.proofs.SoFar.{SoFar}

@@ -1,5 +1,4 @@
-use Rattle.std.proofs.Common.{◌≡◌, sym, ap, subst, ◌∙◌, ℕ, List, Option, Some, Result, Ok, Err}
-use Rattle.std.specs.Option.{option_copied}
+use Rattle.std.proofs.Common.{ap, subst, ◌∙◌, ℕ, List, Option, Some, Ok, Err}
 use Rattle.std.proofs.lemmas.Result.{err_from_is_err_and}
 use Rattle.pas_syntax.specs.declared.tree.Labels.{Labels as CodeLabels}
 use Rattle.pas_syntax.specs.declared.tree.Rows.{Rows as CodeRows}
@@ -9,7 +8,6 @@ use Rattle.pas_syntax.specs.Tree.{Labels, Rows, VariableRow, Compound}
 use Rattle.pas_syntax.specs.Views.{if_there}
 use Rattle.pas_syntax.specs.ProgramViews.{labels_in, variable_row_in, rows_in, compound_in}
 use Rattle.pas_typed.specs.TypedViews.{body_view}
-use Rattle.pas_types.specs.declared.scopes.Inner.{Inner as CodeInner}
 use Rattle.pas_types.specs.declared.scopes.Scopes.{Scopes as CodeScopes}
 use Rattle.pas_types.specs.declared.stop.Stop.{Stop}
 use Rattle.pas_types.specs.Declarations.{declared_labels}

@@ -1,4 +1,4 @@
-use Rattle.std.proofs.Common.{◌≡◌, sym, ap, ◌∙◌, ◌≤◌, arith, List, Option, length}
+use Rattle.std.proofs.Common.{sym, ap, ◌∙◌, ◌≤◌, arith, List, Option, length}
 use Rattle.std.specs.Prelude.{slice_set}
 use Rattle.pas_types.specs.declared.scopes.Inner.{Inner as CodeInner}
 use Rattle.pas_types.specs.declared.scopes.KnownRoutine.{KnownRoutine as CodeRoutine}

@@ -1,4 +1,4 @@
-use Rattle.std.proofs.Common.{◌≡◌, sym, ap, subst, ◌∙◌, ℕ, Bool, true, List}
+use Rattle.std.proofs.Common.{◌≡◌, sym, ap, subst, ◌∙◌, ℕ, true, List}
 use Rattle.std.specs.Prelude.{not, ◌&&◌}
 use Rattle.pas_syntax.specs.Views.{spelled_in}
 use Rattle.pas_types.specs.declared.scopes.Scopes.{Scopes as CodeScopes}

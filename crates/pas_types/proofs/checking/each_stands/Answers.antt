@@ -7,7 +7,7 @@ use Rattle.pas_syntax.specs.Views.{ident_in, separated_in}
 use Rattle.pas_types.specs.ScopeViews.{scopes_view}
 use Rattle.pas_types.specs.inner.Checking.{IsParameter, AreParameters}
 use Rattle.pas_types.proofs.NewNameLemmas.{all_names, seen_behind}
-use Rattle.pas_types.proofs.ParameterLemmas.{begun, unbegun, name_more, name_stopped, names_ended, parameters_stop}
+use Rattle.pas_types.proofs.ParameterLemmas.{unbegun, name_more, name_stopped, names_ended, parameters_stop}
 use Rattle.pas_types.proofs.checking.each_stands.Goals as goal
 
 abbrev no_name : CodeBehind CodeIdent

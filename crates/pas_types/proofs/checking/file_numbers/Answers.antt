@@ -1,4 +1,4 @@
-use Rattle.std.proofs.Common.{◌≡◌, sym, ap, ◌∙◌, ℕ, List, ◌++◌, get_or}
+use Rattle.std.proofs.Common.{sym, ap, ◌∙◌, ℕ, List, ◌++◌, get_or}
 use Rattle.std.specs.Prelude.{position, option_to_list}
 use Rattle.std.specs.Str.{bytes_eq}
 use Rattle.pas_syntax.specs.declared.tree.Ident.{Ident as CodeIdent}

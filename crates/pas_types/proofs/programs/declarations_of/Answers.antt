@@ -1,4 +1,4 @@
-use Rattle.std.proofs.Common.{◌≡◌, sym, ap, ◌∙◌, ℕ, List, Option}
+use Rattle.std.proofs.Common.{◌≡◌, sym, ap, ◌∙◌, ℕ, List}
 use Rattle.std.specs.Option.{option_copied}
 use Rattle.pas_syntax.specs.declared.tree.ProgramTree.{ProgramTree}
 use Rattle.pas_types.specs.declared.scopes.KnownRoutine.{KnownRoutine as CodeKnown}

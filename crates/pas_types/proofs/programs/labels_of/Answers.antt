@@ -1,5 +1,4 @@
-use Rattle.std.proofs.Common.{sym, subst, ap, ℕ, List, Option, Err}
-use Rattle.wb_base.specs.declared.faults.Fault.{Fault}
+use Rattle.std.proofs.Common.{sym, subst, ap, Option, Err}
 use Rattle.pas_syntax.specs.Tree.{Labels}
 use Rattle.pas_syntax.specs.Views.{if_there}
 use Rattle.pas_syntax.specs.ProgramViews.{labels_in}

@@ -1,10 +1,11 @@
-use Rattle.std.proofs.Common.{ℕ, List}
+use Rattle.std.proofs.Common.{sym, subst, ℕ, List}
 use Rattle.std.specs.Option.{option_copied}
 use Rattle.std.proofs.lemmas.Result.{err_from_is_err_and}
 use Rattle.pas_syntax.specs.declared.tree.ProgramTree.{ProgramTree}
 use Rattle.pas_syntax.specs.ProgramViews.{program_in}
 use Rattle.pas_typed.specs.TypedViews.{program_view}
 use Rattle.pas_types.specs.declared.scopes.Scopes.{Scopes as CodeScopes}
+use Rattle.pas_types.specs.inner.Programs.{FaultBy}
 use Rattle.pas_types.proofs.WholeLemmas.{checks_stop, assembles}
 use Rattle.pas_types.proofs.TypedLemmas.{whole_over, new_same, whole_comes, whole_stops, whole_list}
 use Rattle.pas_types.proofs.programs.typed.Goals as goal
@@ -30,8 +31,8 @@ returns-in_err-statements c =
     (c.in_ok-labels.ensures.labels spellings) (c.in_ok-labels.ensures.notes spellings) c.in_ok-bodies.ensures.goes
     why (c.in_err-statements.ensures comes)) program_view
 
-pub returns-in_ok-program : goal.returns-in_ok-program
-returns-in_ok-program c =
+pub returns : goal.returns
+returns c =
     let tree : ProgramTree = c.args.tree.now in
     let spellings : List ℕ = c.args.spellings.now in
     let begun : CodeScopes = c.in_ok-scopes.scopes in
@@ -57,3 +58,10 @@ returns-in_ok-program c =
     assembles tree spellings begun new a noting bodies statements c.in_ok-program.program
     c.in_ok-scopes.ensures.spellings same over list c.in_ok-program.ensures.made c.in_ok-program.ensures.headings
     c.in_ok-program.ensures.files
+
+pub returns-in_err-bodies : goal.returns-in_err-bodies
+returns-in_err-bodies c =
+    let program = program_in c.args.spellings.now c.args.tree.now in
+    checks_stop program c.in_err-bodies.field-0.0 c.from_residual-in_err-bodies.result
+    (err_from_is_err_and _ c.from_residual-in_err-bodies.ensures.1)
+    (subst (FaultBy program) (sym c.in_err-bodies.ensures.memory) tt) program_view

@@ -1,8 +1,7 @@
-use Rattle.std.proofs.Common.{not, true, false, ◌≡◌, sym, ap, subst, ◌∙◌, ℕ, Bool, List, Option, Some, None, Result, Ok, Err}
+use Rattle.std.proofs.Common.{not, true, false, ◌≡◌, sym, ap, subst, ◌∙◌, Bool, Some, None, Ok, Err}
 use Rattle.std.proofs.lemmas.Result.{err_from_is_err_and}
 use Rattle.wb_base.specs.declared.faults.TheConstants.{WRONG_TYPE}
 use Rattle.pas_syntax.specs.declared.tree.Body.{Body as CodeBodyTree}
-use Rattle.pas_syntax.specs.Tree as tree
 use Rattle.pas_syntax.specs.Views.{if_there}
 use Rattle.pas_syntax.specs.ProgramViews.{body_in, labels_in, variable_row_in, rows_in, compound_in}
 use Rattle.pas_typed.specs.TypedViews.{body_view}

@@ -1,4 +1,4 @@
-use Rattle.std.proofs.Common.{◌≡◌, refl, sym, ap, subst, ◌∙◌, ℕ, List, Option, Some, None, IfSome, IsSome, Result, Ok, Err}
+use Rattle.std.proofs.Common.{sym, subst, ℕ, Option, IfSome, IsSome, Ok, Err}
 use Rattle.std.proofs.lemmas.Result.{err_from_is_err_and}
 use Rattle.pas_syntax.specs.Views.{spelled_in}
 use Rattle.pas_types.specs.declared.scopes.Scopes.{Scopes as CodeScopes}

@@ -1,4 +1,4 @@
-use Rattle.std.proofs.Common.{◌≡◌, sym, ap, subst, ◌∙◌, ℕ, List, [], ◌∷◌, ◌++◌, Option, Some, Result, Ok, Err}
+use Rattle.std.proofs.Common.{◌≡◌, sym, ap, subst, ◌∙◌, ℕ, List, [], ◌∷◌, ◌++◌, Option, Err}
 use Rattle.pas_tokens.specs.declared.kinds.Kind.TheVariants as k
 use Rattle.std.proofs.lemmas.Result.{err_from_is_err_and}
 use Rattle.pas_syntax.specs.Tree as tree
@@ -7,14 +7,12 @@ use Rattle.pas_syntax.specs.ProgramViews.{body_in, routine_in}
 use Rattle.pas_typed.specs.TypedViews.{body_view}
 use Rattle.pas_types.specs.declared.scopes.Scopes.{Scopes as CodeScopes}
 use Rattle.pas_types.specs.declared.stop.Stop.{Stop}
-use Rattle.pas_types.specs.NameViews.{with_new}
-use Rattle.pas_types.specs.Scopes.{Outer, Named}
+use Rattle.pas_types.specs.Scopes.{Outer}
 use Rattle.pas_types.specs.Routines.{HeadingParts, routine_by, routine_of}
 use Rattle.pas_types.specs.ScopeViews.{outer_view}
 use Rattle.pas_types.specs.inner.RoutineAnswers.{parts_in}
 use Rattle.pas_types.specs.inner.BlockAnswers.{IsRoutine}
 use Rattle.pas_types.specs.inner.LabelViews.{numbers_of}
-use Rattle.pas_types.specs.inner.RoutineStands.{IsNamed}
 use Rattle.pas_types.proofs.LocalRowLemmas.{stopped}
 use Rattle.pas_types.proofs.RoutineSteps.{head_fails, routine_answer, head_words, head_stage, first, second_is}
 use Rattle.pas_types.proofs.routines.routine_of.Goals as goal

@@ -1,4 +1,4 @@
-use Rattle.std.proofs.Common.{sym, ap, subst, List, ℕ, ◌∷◌, Option, Some, None}
+use Rattle.std.proofs.Common.{sym, ap, subst, List, ℕ, Option, Some, None}
 use Rattle.std.proofs.lemmas.Result.{err_from_is_err_and}
 use Rattle.pas_syntax.specs.declared.tree.Behind.{Behind as CodeBehind}
 use Rattle.pas_syntax.specs.declared.tree.Expr as code_expr
