@@ -48,7 +48,7 @@ shows_own : (bound : PortState) (state : FileState) (told : Option PortState) (f
 shows_own bound state Option.None file is = is
 shows_own bound state (Option.Some port) file is = sym is.bytes
 
-all_shown : (ports : List PortState) (kept : List KeptFile) (found : List File) → AreFiles ports kept found
+pub all_shown : (ports : List PortState) (kept : List KeptFile) (found : List File) → AreFiles ports kept found
     → AreShown kept (map (λ (file : File). file.bytes) found)
 all_shown [] [] [] are = tt
 all_shown [] [] (file ∷ found) are = absurd are
@@ -547,7 +547,7 @@ module _ (number : ℕ) (before now : MachineState) (file new : KeptFile)
   there_too : number < length (failures_of before.files)
   there_too = omega (arith, changes.there, length-map before.files (λ (kept : KeptFile). kept.failures))
 
-  counts_by : (failed : Bool) → CountsFailure failed file.failures new.failures
+  pub counts_by : (failed : Bool) → CountsFailure failed file.failures new.failures
       → CountFailures failed before.files now.files
   counts_by true rose = record {
     number = number;

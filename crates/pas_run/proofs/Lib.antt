@@ -28,3 +28,5 @@ pub mod LineLemmas
 pub mod LayingLemmas
 pub mod StartLemmas
 pub mod RunLemmas
+pub mod EndingLemmas
+pub mod BindingLemmas

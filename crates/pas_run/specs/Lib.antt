@@ -1,2 +1,3 @@
 pub mod RunFiles
+pub mod WholeRuns
 pub mod inner

@@ -9,3 +9,4 @@ pub mod Copying
 pub mod Calling
 pub mod Laying
 pub mod Starting
+pub mod Binding

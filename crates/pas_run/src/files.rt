@@ -1,6 +1,8 @@
 //! The files of a run, each over a port.
 ghost use Rattle.std.specs.Prelude.{◌≡◌, ◌≢◌, None, Some, OnOk, OnErr, IfOk, is_err};
 ghost use Rattle.wb_ports.specs.Counts.{CountsFailure};
+ghost use Rattle.wb_ports.specs.Held.{WhereTold, Becomes};
+ghost use Rattle.wb_ports.specs.PortState.{finished_port};
 ghost use Rattle.wb_ports.specs.declared.port.Mode.{Mode};
 ghost use Rattle.pas_run.specs.declared.files.Usage.{Usage};
 ghost use Rattle.pas_meaning.specs.Answers.{fine};
@@ -175,6 +177,15 @@ impl<P: Port> RunFile<P> {
         }
         self.state.buffer = Some(byte);
         Ok(())
+    }
+
+    // Ends the use of the port.
+    pub(crate) fn finish(&mut self) -> Result<(), Failed>
+        ensures finished { WhereTold (Becomes finished_port) (P.told self.old.port) (P.told self.new.port) }
+        ensures same { self.new.state ≡ self.old.state }
+        ensures cause { CountsFailure (is_err result) (P.failures self.old.port) (P.failures self.new.port) }
+    {
+        self.port.finish()
     }
 
     // The byte at the place of a file that is read.

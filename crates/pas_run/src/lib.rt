@@ -1,6 +1,7 @@
 //! Runs Pascal programs.
 #![tactic(auto)]
 
+mod answers;
 mod arguments;
 mod arithmetic;
 mod calls;
@@ -13,6 +14,7 @@ mod layouts;
 mod lines;
 mod loops;
 mod machine;
+mod over_ports;
 mod places;
 mod quoted;
 mod refusals;
@@ -24,5 +26,7 @@ mod statements;
 mod transfers;
 mod values;
 
+pub use answers::{End, RunErr};
 pub use files::{Ahead, FileState, RunFile, Usage};
+pub use over_ports::run;
 pub use refusals::Refused;

@@ -1,12 +1,13 @@
 //! What a run holds: the activations, its steps and its active calls, and its files.
 ghost use Rattle.std.specs.Prelude.{◌≡◌, ℕ, ◌≤◌, ◌<◌, ◌+◌, ◌-◌, ◌^◌, length, nat_abs, List, IfOk, false, map};
 ghost use Rattle.pas_meaning.specs.declared.errors.TheConstants.{CALL_LIMIT};
-ghost use Rattle.std.specs.Prelude.{Some, [], ◌∷◌, ◌++◌, take};
+ghost use Rattle.std.specs.Prelude.{Some, [], ◌∷◌, ◌++◌, take, OnOk, is_err};
 ghost use Rattle.pas_meaning.specs.Outcome as run;
 ghost use Rattle.pas_meaning.specs.Standing.{Kinds};
 ghost use Rattle.pas_run.specs.inner.FlatStore.{cells_of, cell_in, with_cell, cells_at, with_cells, behind_by};
 ghost use Rattle.pas_run.specs.inner.Doings.{Does, Answers, Any, Same, asks, is_port_failed};
-ghost use Rattle.pas_run.specs.inner.MachineState.{IsWorld, CountFailures};
+ghost use Rattle.pas_run.specs.inner.MachineState.{IsWorld, AreShown, CountFailures};
+ghost use Rattle.pas_run.specs.inner.Starting.{AreFinished, IsFinishedAt};
 ghost use Rattle.pas_run.specs.inner.Copying.{IsFound};
 ghost use Rattle.pas_typed.specs.Texts.{undoubled};
 ghost use Rattle.wb_ports.specs.PortState.{PortState};
@@ -19,7 +20,7 @@ use crate::files::RunFile;
 use pas_meaning::{CALL_LIMIT, WRONG_MODE};
 use std::alloc::Global;
 use std::marker::Model;
-use wb_ports::Port;
+use wb_ports::{Failed, Port};
 
 // What a run holds.
 #[derive(Drop)]
@@ -355,15 +356,17 @@ impl<P: Port> Machine<P> {
         stopped(self.files[file].writeln())
     }
 
-    // A machine before a run, in which the program's activation has these cells.
-    pub(crate) fn new(
+    // A machine before a run, with the program's activation.
+    pub(crate) fn over(
         alloc: Global,
-        cells: Vec<Cell>,
+        activations: Vec<Vec<Cell>>,
         steps: u64,
         files: Vec<RunFile<P>>,
-    ) -> Result<Machine<P>, Stop>
-        ensures made { IsFound (λ machine. machine ≡ record {
-          activations = cells.items ∷ [];
+    ) -> Machine<P>
+        requires { length activations.items < 2 ^ 32 }
+
+        ensures { result ≡ record {
+          activations = map (λ cells. cells.items) activations.items;
           steps = steps;
           calls = 0;
           files = map (λ file. record {
@@ -371,17 +374,49 @@ impl<P: Port> Machine<P> {
             told = P.told file.port;
             failures = P.failures file.port;
           }) files.items;
-        }) result }
-        ensures quiet { is_port_failed result ≡ false }
+        } }
     {
-        let mut activations = Vec::new(alloc);
-        activations.push(cells)?;
-        Ok(Machine {
+        Machine {
             alloc,
             activations,
             steps,
             calls: 0,
             files,
-        })
+        }
+    }
+
+    // Finishes the port of each file, in order.
+    pub(crate) fn finish_files(&mut self) -> Result<(), Failed>
+        ensures finished { OnOk result (AreFinished self.old.files self.new.files) }
+        ensures shown { (bytes : List (List ℕ)) → AreShown self.old.files bytes → AreShown self.new.files bytes }
+        ensures cause { CountFailures (is_err result) self.old.files self.new.files }
+    {
+        for number in 0..self.files.len() {
+            self.finish_file(number)?;
+        }
+        Ok(())
+    }
+
+    // Finishes the port of a file.
+    fn finish_file(&mut self, file: usize) -> Result<(), Failed>
+        requires { file < length self.old.files }
+
+        ensures finished { IsFinishedAt file self.old.files self.new.files }
+        ensures cause { CountFailures (is_err result) self.old.files self.new.files }
+    {
+        self.files[file].finish()
+    }
+
+    // The ports of the files go back into an empty list that has room for them.
+    pub(crate) fn give_back(self, ports: &mut Vec<P>)
+        requires empty { ports.old.items ≡ [] }
+        requires room { length self.files ≤ vec_capacity ports.old }
+
+        ensures told { map P.told ports.new.items ≡ map (λ file. file.told) self.files }
+        ensures failures { map P.failures ports.new.items ≡ map (λ file. file.failures) self.files }
+    {
+        for file in self.files {
+            ports.push(file.port).unwrap();
+        }
     }
 }

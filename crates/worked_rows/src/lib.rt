@@ -17,6 +17,8 @@ mod outside;
 #[cfg(test)]
 mod pascal_grammar;
 #[cfg(test)]
+mod pascal_runs;
+#[cfg(test)]
 mod pascal_tokens;
 #[cfg(test)]
 mod pascal_types;
