@@ -28,5 +28,4 @@ mod values;
 
 pub use answers::{End, RunErr};
 pub use files::{Ahead, FileState, RunFile, Usage};
-pub use over_ports::run;
 pub use refusals::Refused;

@@ -20,52 +20,17 @@ use crate::machine::Machine;
 use crate::runs::{is_text, name_of};
 use crate::start::global_cells;
 use pas_typed::typed::TypedProgram;
-use pas_types::Typed;
 use sqlite_items::Items;
 use std::alloc::Global;
 use std::mem;
 use wb_ports::{Failed, Port};
-
-/// Runs a program on its files, which the first ports are, for at most so many steps: port k becomes the k-th parameter
-/// of the program. The ports behind them are dropped first. Each of the others is told the name of its file, and is
-/// finished behind the run, unless a call of a port failed or no memory was found; after a failed call no port is called
-/// again. What the program writes goes to the port when it is written.
-///
-/// # Errors
-///
-/// `TooDeep` where a call begins while 999 are active, with the files of that moment. `PortFailed` where a call of a port
-/// failed: the ports then hold what the files held at a moment of the run. `OutOfMemory` where no memory was found, or
-/// where the program nests deeper than the stack of the machine allows: nothing is said of the bytes then.
-pub fn run(
-    alloc: Global,
-    program: &Typed,
-    steps: u64,
-    ports: &mut Vec<Box<dyn Port>>,
-) -> Result<End, RunErr>
-    requires { length program.now.files ≤ length ports.old.items }
-
-    // A run ends as the trial does, and its ports hold then what that says; or a failed call cuts it off at a moment.
-    ensures reports { (given : List PortState) → take (length program.now.files)
-        (map (λ port. (Port-box port).told port.value) ports.old.items) ≡ map Some given
-        → Reports (program_view program.now) given steps result
-        (map (λ port. (Port-box port).told port.value) ports.new.items) }
-    ensures keeps { KeepsPorts result (length program.now.files) ports.old.items ports.new.items }
-    ensures tells { StillTell (take (length program.now.files)
-        (map (λ port. (Port-box port).told port.value) ports.old.items)) (take (length program.now.files)
-        (map (λ port. (Port-box port).told port.value) ports.new.items)) }
-    ensures cause { CountsFailures (is_stopped_by_port result) (take (length program.now.files)
-        (map (λ port. (Port-box port).failures port.value) ports.old.items)) (take (length program.now.files)
-        (map (λ port. (Port-box port).failures port.value) ports.new.items)) }
-{
-    answer(stop_of_run(alloc, program.program(), steps, ports))
-}
 
 // The answer of a run that stops so.
 fn answer(why: Stop) -> Result<End, RunErr>
     ensures { result ≡ answer_by why }
 {
     match why {
-        Stop::Halted(status) => Ok(End::Halted(status as u8)),
+        Stop::Halted(status) => Ok(End::Halted(status)),
         Stop::Going => Ok(End::Going),
         Stop::Wrong(kind) => Ok(End::Error(kind)),
         Stop::TooDeep => Err(RunErr::TooDeep),
