@@ -1,15 +1,19 @@
 -- Ports that are bound, the files over them at the start of a run, and the ports behind it.
-use Rattle.std.proofs.Common.{◌≡◌, ℕ, List, [], ◌∷◌, length, map, Option, Some, None, arith, refl, sym, ap, ◌∙◌}
-use Rattle.std.proofs.Common.{subst, slice_index_or, drop}
+use Rattle.std.proofs.Common.{◌≡◌, ℕ, zero, suc, ◌+◌, ◌<◌, ◌≤◌, List, [], ◌∷◌, length, map, Option, Some, None, arith}
+use Rattle.std.proofs.Common.{refl, sym, ap, ◌∙◌, subst, subst₂, slice_index_or, slice_set, slice_get, drop, Bool, true}
+use Rattle.std.proofs.Common.{false}
+use Rattle.std.proofs.lemmas.List.{length-map, map-set, get_or-set_same, set-get_or, get_or-map}
+use Rattle.std.proofs.lemmas.Option.{same_Some}
 use Rattle.std.specs.Prelude.{⊤, zip}
-use Rattle.wb_ports.specs.Held.{WhereTold, Becomes}
+use Rattle.wb_ports.specs.Counts.{Rose, CountsFailure}
+use Rattle.wb_ports.specs.Held.{WhereTold, Becomes, Stays}
 use Rattle.wb_ports.specs.PortState.{PortState, named_port}
 use Rattle.pas_typed.specs.Typed.{Variable}
 use Rattle.pas_meaning.specs.Files.{File}
 use Rattle.pas_meaning.specs.Trial.{file_given, Told}
 use Rattle.pas_run.specs.declared.files.FileState.{FileState}
 use Rattle.pas_run.specs.RunFiles.{IsFile, Shows}
-use Rattle.pas_run.specs.WholeRuns.{IsBehind, AreBehind, Hold}
+use Rattle.pas_run.specs.WholeRuns.{IsBehind, AreBehind, Hold, CountsFailures}
 use Rattle.pas_run.specs.inner.MachineState.{KeptFile, AreFiles, AreShown}
 use Rattle.pas_run.specs.inner.Starting.{IsFinishedFile, AreFinishedFiles}
 use Rattle.pas_run.specs.inner.Binding.{AreBound, state_at_start}
@@ -101,3 +105,143 @@ hold_shown (own ∷ kept) (first ∷ bytes) shown = told own.told shown.0
         → Hold (first ∷ bytes) (tells ∷ map (λ (file : KeptFile). file.told) kept)
     told None shows = absurd shows
     told (Some port) shows = (shows, hold_shown kept bytes shown.1)
+
+-- the first ports are bound
+abbrev pub BoundTo : ℕ → List Variable → List (Option PortState) → List (Option PortState) → Type 0
+BoundTo zero parameters before now = now ≡ before
+BoundTo (suc i) (found ∷ parameters) (told ∷ before) (tells ∷ now) =
+    WhereTold (Becomes (named_port found.name)) told tells × BoundTo i parameters before now
+BoundTo (suc i) parameters before now = ⊥
+
+bound_next : (i : ℕ) (parameters : List Variable) (before between : List (Option PortState)) (found : Variable)
+    (tells : Option PortState) → BoundTo i parameters before between → slice_get parameters i ≡ Some found
+    → i < length before → WhereTold (Becomes (named_port found.name)) (slice_index_or between i tells) tells
+    → BoundTo (suc i) parameters before (slice_set between i tells)
+bound_next i [] before between found tells are is less own = absurd cc
+bound_next i (first ∷ parameters) [] between found tells are is less own = absurd (omega (arith, less))
+bound_next zero (first ∷ parameters) (told ∷ before) between found tells are is less own =
+    subst (λ (between : List (Option PortState)).
+    WhereTold (Becomes (named_port found.name)) (slice_index_or between 0 tells) tells
+    → BoundTo 1 (first ∷ parameters) (told ∷ before) (slice_set between 0 tells)) (sym are)
+    (λ own. (
+      subst (λ (found : Variable). WhereTold (Becomes (named_port found.name)) told tells)
+          (sym (same_Some first found is)) own,
+      refl,
+    ))
+    own
+bound_next (suc i) (first ∷ parameters) (told ∷ before) [] found tells are is less own = absurd are
+bound_next (suc i) (first ∷ parameters) (told ∷ before) (next ∷ between) found tells are is less own =
+    (are.0, bound_next i parameters before between found tells are.1 is (omega (arith, less)) own)
+
+bound_all : (i : ℕ) (parameters : List Variable) (before now : List (Option PortState)) → BoundTo i parameters before now
+    → length before ≤ i → length parameters ≡ length before → AreBound parameters before now
+bound_all zero [] [] now are less many = subst (λ (now : List (Option PortState)). AreBound [] [] now) (sym are) tt
+bound_all zero [] (told ∷ before) now are less many = absurd (omega (arith, less))
+bound_all zero (found ∷ parameters) [] now are less many = absurd (omega (arith, many))
+bound_all zero (found ∷ parameters) (told ∷ before) now are less many = absurd (omega (arith, less))
+bound_all (suc i) [] before now are less many = absurd are
+bound_all (suc i) (found ∷ parameters) [] now are less many = absurd are
+bound_all (suc i) (found ∷ parameters) (told ∷ before) [] are less many = absurd are
+bound_all (suc i) (found ∷ parameters) (told ∷ before) (tells ∷ now) are less many =
+    (are.0, bound_all i parameters before now are.1 (omega (arith, less)) (omega (arith, many)))
+
+-- a port that is bound holds what it held
+own_holds : (name bytes : List ℕ) (others : List (List ℕ)) (told tells : Option PortState)
+    (before now : List (Option PortState)) → WhereTold (Becomes (named_port name)) told tells
+    → (Hold others before → Hold others now) → Hold (bytes ∷ others) (told ∷ before) → Hold (bytes ∷ others) (tells ∷ now)
+own_holds name bytes others None tells before now own rest hold = absurd hold
+own_holds name bytes others (Some told) None before now own rest hold = absurd own
+own_holds name bytes others (Some told) (Some tells) before now own rest hold =
+    (ap (λ (port : PortState). port.bytes) own ∙ hold.0, rest hold.1)
+
+hold_bound : (i : ℕ) (parameters : List Variable) (before now : List (Option PortState)) (bytes : List (List ℕ))
+    → BoundTo i parameters before now → Hold bytes before → Hold bytes now
+hold_bound zero parameters before now bytes are hold = subst (Hold bytes) (sym are) hold
+hold_bound (suc i) [] before now bytes are hold = absurd are
+hold_bound (suc i) (found ∷ parameters) [] now bytes are hold = absurd are
+hold_bound (suc i) (found ∷ parameters) (told ∷ before) [] bytes are hold = absurd are
+hold_bound (suc i) (found ∷ parameters) (told ∷ before) (tells ∷ now) [] are hold = absurd hold
+hold_bound (suc i) (found ∷ parameters) (told ∷ before) (tells ∷ now) (first ∷ bytes) are hold =
+    own_holds found.name first bytes told tells before now are.0 (hold_bound i parameters before now bytes are.1) hold
+
+-- a port that stays as it is holds what it held
+hold_stays : (i : ℕ) (between : List (Option PortState)) (tells : Option PortState) (bytes : List (List ℕ))
+    → i < length between → WhereTold Stays (slice_index_or between i tells) tells → Hold bytes between
+    → Hold bytes (slice_set between i tells)
+hold_stays i [] tells bytes less own hold = absurd (omega (arith, less))
+hold_stays i (told ∷ between) tells [] less own hold = absurd hold
+hold_stays zero (None ∷ between) tells (first ∷ bytes) less own hold = absurd hold
+hold_stays zero (Some told ∷ between) None (first ∷ bytes) less own hold = absurd own
+hold_stays zero (Some told ∷ between) (Some tells) (first ∷ bytes) less own hold =
+    (ap (λ (port : PortState). port.bytes) own ∙ hold.0, hold.1)
+hold_stays (suc i) (None ∷ between) tells (first ∷ bytes) less own hold = absurd hold
+hold_stays (suc i) (Some told ∷ between) tells (first ∷ bytes) less own hold =
+    (hold.0, hold_stays i between tells bytes (omega (arith, less)) own hold.1)
+
+-- the failed calls of the one port are those of all
+pub counts_of_one : (before now : List ℕ) (i count : ℕ) (failed : Bool) → i < length before
+    → now ≡ slice_set before i count → CountsFailure failed (slice_index_or before i 0) count
+    → CountsFailures failed before now
+counts_of_one before now i count true less is rose = record {
+  number = i;
+  there = less;
+  rose = subst (Rose (slice_index_or before i 0))
+      (sym (ap (λ counts. slice_index_or counts i 0) is ∙ get_or-set_same before i count 0 less)) rose;
+}
+counts_of_one before now i count false less is same =
+    is ∙ ap (slice_set before i) same ∙ set-get_or before i 0
+
+-- the same of ports that tell and count so
+module _ {P : Type 0} (told : P → Option PortState) (failures : P → ℕ) (parameters : List Variable)
+    (initial : List P) (i : ℕ) (ports : List P) (new : P) (less : i < length ports) where
+  told_at : (tells : Option PortState) → slice_index_or (map told ports) i tells ≡ told (slice_index_or ports i new)
+  told_at tells = get_or-map told ports i new tells less
+
+  failures_at : slice_index_or (map failures ports) i 0 ≡ failures (slice_index_or ports i new)
+  failures_at = get_or-map failures ports i new 0 less
+
+  many_counts : i < length (map failures ports)
+  many_counts = omega (arith, less, length-map ports failures)
+
+  pub bound_one : (found : Variable) (name : List ℕ) → slice_get parameters i ≡ Some found → name ≡ found.name
+      → BoundTo i parameters (map told initial) (map told ports) → length ports ≡ length initial
+      → WhereTold (Becomes (named_port name)) (told (slice_index_or ports i new)) (told new)
+      → BoundTo (i + 1) parameters (map told initial) (map told (slice_set ports i new))
+  bound_one found name is named are many own =
+      let next : suc i ≡ i + 1 = omega arith in
+      subst (λ (k : ℕ). BoundTo k parameters (map told initial) (map told (slice_set ports i new))) next
+      (subst (BoundTo (suc i) parameters (map told initial)) (sym (map-set told ports i new))
+      (bound_next i parameters (map told initial) (map told ports) found (told new) are is
+      (omega (arith, less, many, length-map initial told))
+      (subst₂ (λ (name : List ℕ) (before : Option PortState). WhereTold (Becomes (named_port name)) before (told new))
+      named (sym (told_at (told new))) own)))
+
+  pub hold_not_bound : (bytes : List (List ℕ)) → BoundTo i parameters (map told initial) (map told ports)
+      → WhereTold Stays (told (slice_index_or ports i new)) (told new) → Hold bytes (map told initial)
+      → Hold bytes (map told (slice_set ports i new))
+  hold_not_bound bytes are own hold =
+      subst (Hold bytes) (sym (map-set told ports i new))
+      (hold_stays i (map told ports) (told new) bytes (omega (arith, less, length-map ports told))
+      (subst (λ (before : Option PortState). WhereTold Stays before (told new)) (sym (told_at (told new))) own)
+      (hold_bound i parameters (map told initial) (map told ports) bytes are hold))
+
+  pub counts_at : (failed : Bool)
+      → CountsFailure failed (failures (slice_index_or ports i new)) (failures new)
+      → CountsFailures failed (map failures ports) (map failures (slice_set ports i new))
+  counts_at failed own =
+      counts_of_one (map failures ports) (map failures (slice_set ports i new)) i (failures new) failed many_counts
+      (map-set failures ports i new)
+      (subst (λ count. CountsFailure failed count (failures new)) (sym failures_at) own)
+
+pub ports_bound : {P : Type 0} (told : P → Option PortState) (parameters : List Variable) (initial ports : List P)
+    (i : ℕ) → BoundTo i parameters (map told initial) (map told ports) → length initial ≤ i
+    → length parameters ≡ length initial → AreBound parameters (map told initial) (map told ports)
+ports_bound told parameters initial ports i are less many =
+    bound_all i parameters (map told initial) (map told ports) are (omega (arith, less, length-map initial told))
+    (omega (arith, many, length-map initial told))
+
+pub ports_hold : {P : Type 0} (told : P → Option PortState) (parameters : List Variable) (initial ports : List P)
+    (i : ℕ) (bytes : List (List ℕ)) → BoundTo i parameters (map told initial) (map told ports)
+    → Hold bytes (map told initial) → Hold bytes (map told ports)
+ports_hold told parameters initial ports i bytes =
+    hold_bound i parameters (map told initial) (map told ports) bytes

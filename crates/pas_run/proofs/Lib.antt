@@ -30,3 +30,4 @@ pub mod StartLemmas
 pub mod RunLemmas
 pub mod EndingLemmas
 pub mod BindingLemmas
+pub mod ReportLemmas

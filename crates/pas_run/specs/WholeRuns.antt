@@ -2,7 +2,6 @@
 use Rattle.std.specs.Prelude.{◌≡◌, ◌⊎◌, ℕ, ◌<◌, List, [], ◌∷◌, length, map, slice_index_or, Option, Some, None, Result}
 use Rattle.std.specs.Prelude.{Ok, Err, Bool, true, false, Contains, ⊤}
 use Rattle.wb_ports.specs.Counts.{Rose, next_count, grown}
-use Rattle.wb_ports.specs.Held.{WhereTold}
 use Rattle.wb_ports.specs.PortState.{PortState}
 use Rattle.pas_typed.specs.Typed.{Variable, TypedProgram}
 use Rattle.pas_meaning.specs.Outcome.{halted, going, too_deep}
@@ -68,12 +67,6 @@ module _ (program : TypedProgram) (ports : List PortState) (steps : ℕ) where
 abbrev pub KeepsPorts : {P : Type 0} → Result End RunErr → ℕ → List P → List P → Type 0
 KeepsPorts (Err failure.OutOfMemory) count before now = (now ≡ before) ⊎ (length now ≡ count)
 KeepsPorts result count before now = length now ≡ count
-
--- a port that told tells, and no other
-abbrev pub StillTell : List (Option PortState) → List (Option PortState) → Type 0
-StillTell [] [] = ⊤
-StillTell (before ∷ others) (now ∷ tells) = WhereTold (λ _ _. ⊤) before now × StillTell others tells
-StillTell others tells = ⊥
 
 -- the count of failed calls of one port rose where a port stopped the run; else all are as they were
 abbrev pub is_stopped_by_port : Result End RunErr → Bool

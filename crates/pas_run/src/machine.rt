@@ -1,7 +1,7 @@
 //! What a run holds: the activations, its steps and its active calls, and its files.
 ghost use Rattle.std.specs.Prelude.{◌≡◌, ℕ, ◌≤◌, ◌<◌, ◌+◌, ◌-◌, ◌^◌, length, nat_abs, List, IfOk, false, map};
 ghost use Rattle.pas_meaning.specs.declared.errors.TheConstants.{CALL_LIMIT};
-ghost use Rattle.std.specs.Prelude.{Some, [], ◌∷◌, ◌++◌, take, OnOk, is_err};
+ghost use Rattle.std.specs.Prelude.{Some, [], ◌∷◌, ◌++◌, take, OnOk, is_err, vec_capacity};
 ghost use Rattle.pas_meaning.specs.Outcome as run;
 ghost use Rattle.pas_meaning.specs.Standing.{Kinds};
 ghost use Rattle.pas_run.specs.inner.FlatStore.{cells_of, cell_in, with_cell, cells_at, with_cells, behind_by};

@@ -1,10 +1,10 @@
 //! The run of a program over ports.
-ghost use Rattle.std.specs.Prelude.{◌≡◌, ◌≤◌, ℕ, List, [], ◌∷◌, Some, length, map, take, All, OnOk, is_err};
+ghost use Rattle.std.specs.Prelude.{◌≡◌, ◌≤◌, ℕ, List, [], ◌∷◌, Some, length, map, take, All, OnOk, is_err, vec_capacity};
 ghost use Rattle.wb_ports.specs.PortState.{PortState};
 ghost use Rattle.pas_typed.specs.Lawful.{IsLawful};
 ghost use Rattle.pas_typed.specs.TypedViews.{program_view};
 ghost use Rattle.pas_meaning.specs.Trial.{parameters_of};
-ghost use Rattle.pas_run.specs.WholeRuns.{Reports, Hold, KeepsPorts, StillTell, CountsFailures, is_stopped_by_port};
+ghost use Rattle.pas_run.specs.WholeRuns.{Reports, Hold, KeepsPorts, CountsFailures};
 ghost use Rattle.pas_run.specs.inner.Binding.{HasPortName, AreBound, state_at_start, activations_at_start, answer_by};
 ghost use Rattle.pas_run.specs.inner.Copying.{IsFound};
 ghost use Rattle.pas_run.specs.inner.Doings.{is_failure};

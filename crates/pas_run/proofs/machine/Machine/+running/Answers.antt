@@ -1280,13 +1280,10 @@ halt-returns-clause-does g t c variables result kinds at is most =
     let program = program_view c.args.scene.program.now in
     let status = value_view c.args.status.now in
     let found : to_z w32 (of_z w32 c.in_ok-found.found) ≡ c.in_ok-found.found = search rules in
-    subst (λ (number : ℕ). Does {T = CodeFlow} most kinds kinds IsFlow
-    (statement_of program most meaning.start (typed.halts status))
-    c.args.self.now c.number.new.self (Err (stop.Halted number))) (sym c.from.ensures)
-    (halts_next program most kinds c.args.self.now status c.number.new.self c.in_ok-found.found c.in_ok-status.status
+    halts_next program most kinds c.args.self.now status c.number.new.self c.in_ok-found.found c.in_ok-status.status
     (c.in_ok-found.ensures.does variables result kinds at is most)
     (subst (λ number. Answers Same (byte_of STATUS_OUT_OF_RANGE (holds number)) (Ok c.in_ok-status.status)) found
-    c.in_ok-status.ensures))
+    c.in_ok-status.ensures)
 
 pub branch-returns-in_err-holds-clause-does : goal.branch-returns-in_err-holds-clause-does
 branch-returns-in_err-holds-clause-does g t c variables result kinds at is most =
