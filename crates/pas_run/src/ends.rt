@@ -11,7 +11,7 @@ use wb_base::OutOfMemory;
 #[derive(Clone, Copy, Debug, PartialEq, Eq)]
 pub(crate) enum Stop {
     // The run halts with this status.
-    Halted(u32),
+    Halted(u8),
     // It would take one step more.
     Going,
     // It commits an error of this kind.

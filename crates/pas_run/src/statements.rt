@@ -225,7 +225,7 @@ impl<P: Port> Machine<P> {
     {
         let found = self.number(scene, status, levels)?;
         let status = byte_of(STATUS_OUT_OF_RANGE, found)?;
-        Err(Stop::Halted(u32::from(status)))
+        Err(Stop::Halted(status))
     }
 
     // `if` without `else`.

@@ -297,7 +297,7 @@ pub enum Statement {
     /// `goto` to a label of a list around it.
     Goto(u32),
     /// `goto` to the program's last label, which halts with this status.
-    GotoLast(u32),
+    GotoLast(u8),
     /// A step of a file.
     Steps(FileStep, Boxed<Place>),
     /// `read` from a file into places.

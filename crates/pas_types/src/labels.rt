@@ -273,7 +273,7 @@ pub(crate) fn label_of(statement: &Statement) -> Option<u32>
 #[derive(Clone, Copy, Debug, PartialEq, Eq)]
 pub(crate) enum Goto {
     Label(u32),
-    Last(u32),
+    Last(u8),
 }
 
 // What a goto to a label means, in a routine, of which the labels hide those of the program, or in the program.
