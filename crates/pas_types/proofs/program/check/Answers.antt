@@ -5,11 +5,11 @@ use Rattle.wb_base.specs.WorkResult.{IfFault}
 use Rattle.pas_syntax.specs.Tree.{Program}
 use Rattle.pas_syntax.specs.ProgramViews.{program_in}
 use Rattle.pas_typed.specs.TypedViews.{program_view}
-use Rattle.pas_types.specs.declared.stop.Stop.{Stop}
-use Rattle.pas_types.specs.declared.stop.Stop.TheVariants as stop
-use Rattle.pas_types.specs.Check.{Means, IsFaultOf}
+use Rattle.pas_scopes.specs.declared.stop.Stop.{Stop}
+use Rattle.pas_scopes.specs.declared.stop.Stop.TheVariants as stop
+use Rattle.pas_rules.specs.Check.{Means, IsFaultOf}
 use Rattle.pas_types.specs.inner.Programs.{FaultBy}
-use Rattle.pas_types.specs.inner.Stopping.{work_err}
+use Rattle.pas_scopes.specs.Stopping.{work_err}
 use Rattle.pas_types.proofs.program.check.Goals as goal
 
 fault_told : (X : Type 0) (program : Program) (why : Stop) → FaultBy program why
