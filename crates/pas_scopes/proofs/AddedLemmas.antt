@@ -18,7 +18,7 @@ use Rattle.pas_rules.specs.Scopes.{Entity, variable, unclear, Named, names, Oute
 use Rattle.pas_rules.specs.Declarations.{variables_of, named_slots, unclear_names, are_parameters}
 use Rattle.pas_rules.specs.Scopes.{with_new}
 use Rattle.pas_scopes.specs.ScopeViews.{all_idents}
-use Rattle.pas_scopes.specs.Declared.{with_each}
+use Rattle.pas_scopes.specs.DeclaredSoFar.{with_each}
 
 -- the names that a loop has come to
 abbrev pub no_name : CodeBehind CodeIdent

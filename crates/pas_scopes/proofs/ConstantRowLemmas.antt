@@ -24,8 +24,8 @@ use Rattle.pas_rules.specs.Declarations.{taken, program_scopes, new_name, consta
 use Rattle.pas_rules.specs.Scopes.{with_new}
 use Rattle.pas_scopes.specs.ScopeViews.{inner_view, outer_view, scopes_view, IsClear, Agrees}
 use Rattle.pas_scopes.specs.NameAnswers.{taken_in, new_faults, IsNewName}
-use Rattle.pas_scopes.specs.Declared.{first_noted, IsAlike, IsOuter, Notes, NotesIf, constant_meant}
-use Rattle.pas_scopes.specs.Declared.{Declares, IsCounted}
+use Rattle.pas_scopes.specs.DeclaredSoFar.{first_noted, IsAlike, IsOuter, Notes, NotesIf, constant_meant}
+use Rattle.pas_scopes.specs.DeclaredSoFar.{Declares, IsCounted}
 use Rattle.pas_rules.proofs.AsMany.{next_word, before_word}
 use Rattle.pas_rules.proofs.TypesAsMany.{constant_many}
 use Rattle.pas_scopes.proofs.SettleLemmas.{quiet_word, quiet_alone}

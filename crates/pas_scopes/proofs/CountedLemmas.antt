@@ -26,8 +26,8 @@ use Rattle.pas_rules.specs.TypeForms.{no_indexes, table_of_indexes, more_indexes
 use Rattle.pas_rules.specs.TypeForms.{no_fields, table_of_fields, form_of, groups_of}
 use Rattle.pas_rules.specs.Declarations.{cells_of_variable, cells_together, program_scopes, with_name, types_behind}
 use Rattle.pas_rules.specs.Declarations.{variables_of, routine_scopes}
-use Rattle.pas_scopes.specs.Declared.{IsThere, AreThere, AreTyped, IsHeld, AreHeld, IsFiled, AreFiled}
-use Rattle.pas_scopes.specs.Declared.{IsCounted, constant_meant}
+use Rattle.pas_scopes.specs.DeclaredSoFar.{IsThere, AreThere, AreTyped, IsHeld, AreHeld, IsFiled, AreFiled}
+use Rattle.pas_scopes.specs.DeclaredSoFar.{IsCounted, constant_meant}
 use Rattle.pas_typed.specs.TypeViews.{counted}
 
 -- more rows

@@ -1,7 +1,7 @@
 -- Declarations, one behind another, and the first fault that they show.
 use Rattle.std.proofs.Common.{◌≡◌, ◌≢◌, refl, sym, ap, subst, ◌∙◌, ℕ, Bool, true, false, List, [], ◌∷◌, ◌++◌, Option}
 use Rattle.std.proofs.Common.{Some}
-use Rattle.std.proofs.Common.{None, Err, cond, ◌||◌}
+use Rattle.std.proofs.Common.{None, Err, cond}
 use Rattle.std.specs.Prelude.{find, option_map, is_some, if◌then◌else◌}
 use Rattle.std.specs.Str.{bytes_eq}
 use Rattle.std.proofs.lemmas.Slice.Eq.{bytes_eq-Decides}
@@ -15,7 +15,7 @@ use Rattle.pas_rules.specs.Scopes.{with_new}
 use Rattle.pas_scopes.specs.Answers.{lawful_end, EndsAs, StopsBy, IsQuiet, FailsBy}
 use Rattle.pas_scopes.specs.Constants.{IsUnknownBy}
 use Rattle.pas_scopes.proofs.EndLemmas.{end_quiet}
-use Rattle.pas_scopes.specs.Declared.{first_noted, Notes, NotesIf}
+use Rattle.pas_scopes.specs.DeclaredSoFar.{first_noted, Notes, NotesIf}
 use Rattle.pas_rules.proofs.AsMany.{AsMany}
 use Rattle.pas_rules.proofs.NamesThere.{there_is}
 use Rattle.pas_scopes.proofs.SettleLemmas.{quiet_behind, shows_front, shows_behind}

@@ -29,8 +29,8 @@ use Rattle.pas_scopes.specs.ScopeViews.{outer_view, scopes_view, IsClear, Agrees
 use Rattle.pas_scopes.specs.Answers.{end_in, EndsAs}
 use Rattle.pas_scopes.specs.FormAnswers.{FoundIf, first_told}
 use Rattle.pas_scopes.specs.NameAnswers.{AreNewNames, AreNew}
-use Rattle.pas_scopes.specs.Declared.{first_noted, IsAlike, IsOuter, Notes, NotesIf, AreThere, AreTyped}
-use Rattle.pas_scopes.specs.Declared.{AreHeld, IsCounted, IsDeclared, IsLike, Declares, global_form, with_each}
+use Rattle.pas_scopes.specs.DeclaredSoFar.{first_noted, IsAlike, IsOuter, Notes, NotesIf, AreThere, AreTyped}
+use Rattle.pas_scopes.specs.DeclaredSoFar.{AreHeld, IsCounted, IsDeclared, IsLike, Declares, global_form, with_each}
 use Rattle.pas_rules.proofs.AsMany.{next_word, before_word, noted_many}
 use Rattle.pas_rules.proofs.TypesAsMany.{form_many}
 use Rattle.pas_scopes.proofs.SettleLemmas.{quiet_word, quiet_alone}

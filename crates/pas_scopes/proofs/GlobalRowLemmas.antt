@@ -19,7 +19,7 @@ use Rattle.pas_rules.specs.Scopes.{Outer, spellings_of}
 use Rattle.pas_rules.specs.Declarations.{taken, types_behind, variables_of, named_slots, unclear_names}
 use Rattle.pas_scopes.specs.ScopeViews.{made_view, all_idents}
 use Rattle.pas_scopes.specs.NameAnswers.{AreNewNames, AreNew}
-use Rattle.pas_scopes.specs.Declared.{global_form, with_each}
+use Rattle.pas_scopes.specs.DeclaredSoFar.{global_form, with_each}
 use Rattle.pas_scopes.proofs.KeptLemmas.{spellings_kept}
 use Rattle.pas_scopes.proofs.AddedLemmas.{seen_length}
 use Rattle.pas_scopes.proofs.GlobalLemmas.{Adds, made_by}

@@ -34,7 +34,7 @@ use Rattle.pas_scopes.specs.FormAnswers.{first_told, FoundIf, SettledIf, fields_
 use Rattle.pas_scopes.specs.declared.judged.Judged.{Judged as CodeJudged}
 use Rattle.pas_scopes.specs.Answers.{end_in, stands_at, stands_by}
 use Rattle.pas_scopes.specs.NameAnswers.{AreNewNames}
-use Rattle.pas_scopes.specs.Declared.{first_noted}
+use Rattle.pas_scopes.specs.DeclaredSoFar.{first_noted}
 use Rattle.wb_base.specs.declared.faults.Fault.{Fault}
 use Rattle.pas_scopes.specs.declared.stop.Stop.TheVariants as stop
 use Rattle.pas_rules.proofs.AsMany.{around, behind_word, next_word, noted_many, new_names_many}

@@ -14,7 +14,7 @@ use Rattle.pas_rules.specs.Marks.{unless}
 use Rattle.pas_rules.specs.Scopes.{Named, names_of, contains}
 use Rattle.pas_rules.specs.Declarations.{variables_of, named_slots, with_locals}
 use Rattle.pas_scopes.specs.ScopeViews.{inner_view}
-use Rattle.pas_scopes.specs.Declared.{with_each}
+use Rattle.pas_scopes.specs.DeclaredSoFar.{with_each}
 use Rattle.pas_scopes.specs.NameAnswers.{AreNew}
 use Rattle.pas_scopes.proofs.AddedLemmas.{seen}
 use Rattle.std.proofs.lemmas.Bool.Decides.{nat_tests}

@@ -31,7 +31,7 @@ use Rattle.pas_scopes.specs.ScopeViews.{outer_view, inner_view, scopes_view, IsC
 use Rattle.pas_scopes.specs.Answers.{Ending, EndsAs, FailsBy, IsQuiet, ShowsBy}
 use Rattle.pas_scopes.specs.Ends.{shown_behind}
 use Rattle.pas_scopes.specs.NameAnswers.{AreNew}
-use Rattle.pas_scopes.specs.Declared.{AreThere, AreTyped}
+use Rattle.pas_scopes.specs.DeclaredSoFar.{AreThere, AreTyped}
 use Rattle.pas_scopes.specs.Locals.{with_all, IsMeasured, IsWaitingIf, AreWaiting}
 use Rattle.pas_scopes.specs.Locals.{IsLawful, IsWithin}
 use Rattle.pas_rules.proofs.AsMany.{AsMany, next_word, before_word, noted_many}

@@ -11,7 +11,7 @@ use Rattle.pas_scopes.specs.declared.scopes.Scopes.{Scopes as CodeScopes}
 use Rattle.pas_rules.specs.Marks.{Marks, no_token, quiet, joined}
 use Rattle.pas_rules.specs.Scopes.{Outer}
 use Rattle.pas_rules.specs.Declarations.{Stage, more_rows, rows_of}
-use Rattle.pas_scopes.specs.Declared.{Notes, Declares}
+use Rattle.pas_scopes.specs.DeclaredSoFar.{Notes, Declares}
 use Rattle.pas_rules.proofs.AsMany.{AsMany, all}
 use Rattle.pas_rules.proofs.DeclarationsAsMany.{more_rows_many}
 use Rattle.pas_scopes.proofs.PartLemmas.{alone}

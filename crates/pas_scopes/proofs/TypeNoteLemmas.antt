@@ -10,7 +10,7 @@ use Rattle.pas_rules.specs.Marks.{Judged}
 use Rattle.pas_scopes.specs.Ends.{Ends}
 use Rattle.pas_scopes.specs.Answers.{end_in, stands_at, stands_by, StopsBy}
 use Rattle.pas_scopes.specs.FormAnswers.{first_told, FoundIf}
-use Rattle.pas_scopes.specs.Declared.{first_noted, NotesIf}
+use Rattle.pas_scopes.specs.DeclaredSoFar.{first_noted, NotesIf}
 use Rattle.pas_scopes.proofs.EndLemmas.{end_quiet}
 use Rattle.pas_scopes.proofs.AnswerLemmas.{stops_fails, refused_shows}
 use Rattle.pas_scopes.proofs.DeclaredLemmas.{notes_why, fault_noted}

@@ -21,8 +21,8 @@ use Rattle.pas_rules.specs.Declarations.{taken, program_scopes, new_name, type_r
 use Rattle.pas_rules.specs.Scopes.{with_new}
 use Rattle.pas_scopes.specs.ScopeViews.{outer_view, scopes_view, IsClear, Agrees}
 use Rattle.pas_scopes.specs.NameAnswers.{taken_in, IsNewName}
-use Rattle.pas_scopes.specs.Declared.{first_noted, IsAlike, IsOuter, Notes, NotesIf, type_meant, Declares}
-use Rattle.pas_scopes.specs.Declared.{IsCounted}
+use Rattle.pas_scopes.specs.DeclaredSoFar.{first_noted, IsAlike, IsOuter, Notes, NotesIf, type_meant, Declares}
+use Rattle.pas_scopes.specs.DeclaredSoFar.{IsCounted}
 use Rattle.pas_rules.proofs.AsMany.{next_word, before_word}
 use Rattle.pas_rules.proofs.TypesAsMany.{form_many}
 use Rattle.pas_scopes.proofs.SettleLemmas.{quiet_word, quiet_alone}

@@ -11,6 +11,6 @@ pub mod TypeAnswers
 pub mod Arguments
 pub mod NameAnswers
 pub mod FormAnswers
-pub mod Declared
+pub mod DeclaredSoFar
 pub mod Locals
 pub mod inner

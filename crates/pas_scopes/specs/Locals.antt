@@ -22,7 +22,7 @@ use Rattle.pas_rules.specs.Declarations.{cells_together, named_slots, InnerStage
 use Rattle.pas_rules.specs.Scopes.{with_new}
 use Rattle.pas_scopes.specs.ScopeViews.{inner_view, outer_view, scopes_view, IsClear}
 use Rattle.pas_scopes.specs.Answers.{IsQuiet, FailsBy}
-use Rattle.pas_scopes.specs.Declared.{AreThere, AreTyped, IsCounted}
+use Rattle.pas_scopes.specs.DeclaredSoFar.{AreThere, AreTyped, IsCounted}
 
 -- the scope of a routine with variables of one kind, one after another
 module _ (spellings : List ℕ) (mode : CodeMode) (type : CodePasType) where

@@ -1,11 +1,11 @@
 -- What names stand for in the code, as the definition has it.
-use Rattle.std.specs.Prelude.{ℕ, ◌^◌, ℤ, pos, neg_ℤ, ◌≤ℤ◌, ⊤, if◌then◌else◌, List, [], ◌∷◌, ◌++◌}
+use Rattle.std.specs.Prelude.{◌^◌, ℤ, pos, neg_ℤ, ◌≤ℤ◌, ⊤, List, [], ◌∷◌}
 use Rattle.pas_scopes.specs.declared.names.Procedure.{Procedure as CodeProcedure}
 use Rattle.pas_scopes.specs.declared.names.Procedure.TheVariants as code_procedure
 use Rattle.pas_scopes.specs.declared.names.Entity.{Entity as CodeEntity}
 use Rattle.pas_scopes.specs.declared.names.Entity.TheVariants as code
 use Rattle.pas_rules.specs.Scopes as spec
-use Rattle.pas_rules.specs.Scopes.{Procedure, Entity, Named, names, names_of, contains}
+use Rattle.pas_rules.specs.Scopes.{Procedure, Entity, Named}
 use Rattle.pas_typed.specs.TypeViews.{base_view, type_view}
 use Rattle.pas_typed.specs.TypedViews.{slot_view, function_view, file_test_view, file_step_view}
 

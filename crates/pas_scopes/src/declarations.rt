@@ -12,7 +12,7 @@ ghost use Rattle.pas_rules.specs.TypeForms as form;
 ghost use Rattle.pas_rules.specs.Declarations as spec;
 ghost use Rattle.pas_scopes.specs.NameViews.{entity_view, IsSmallEntity};
 ghost use Rattle.pas_scopes.specs.ScopeViews.{scopes_view, IsClear, Agrees};
-ghost use Rattle.pas_scopes.specs.Declared.{constant_meant, type_meant, NotesIf, Declares};
+ghost use Rattle.pas_scopes.specs.DeclaredSoFar.{constant_meant, type_meant, NotesIf, Declares};
 
 use crate::constants::{Ordinal, constant_of};
 use crate::names::Entity;

@@ -18,7 +18,7 @@ ghost use Rattle.pas_rules.specs.Declarations as spec;
 ghost use Rattle.pas_rules.specs.Scopes.{with_new};
 ghost use Rattle.pas_scopes.specs.ScopeViews.{outer_view, made_view, all_idents, IsClear};
 ghost use Rattle.pas_scopes.specs.Answers.{end_in, EndsAs};
-ghost use Rattle.pas_scopes.specs.Declared.{global_form, with_each, IsLike, NotesIf, Declares};
+ghost use Rattle.pas_scopes.specs.DeclaredSoFar.{global_form, with_each, IsLike, NotesIf, Declares};
 
 use crate::judged::Judged;
 use crate::name_sets::NameSet;

@@ -1,7 +1,7 @@
 //! The first fault that is noted, where checking goes on behind it.
 ghost use Rattle.std.specs.Prelude.{◌≡◌, ◌≢◌, Err, IfOk, OnOk, OnErr};
 ghost use Rattle.pas_scopes.specs.declared.stop.Stop.TheVariants as stop;
-ghost use Rattle.pas_scopes.specs.Declared.{first_noted};
+ghost use Rattle.pas_scopes.specs.DeclaredSoFar.{first_noted};
 
 use crate::stop::Stop;
 use wb_base::{Fault, OutOfMemory};

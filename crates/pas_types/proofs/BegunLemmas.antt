@@ -33,7 +33,7 @@ use Rattle.pas_rules.specs.Declarations.{cells_of_variable}
 use Rattle.pas_rules.specs.Check.{parameter_idents, parameter_names, each_once, start}
 use Rattle.pas_rules.specs.Scopes.{with_new, with_name}
 use Rattle.pas_scopes.specs.ScopeViews.{all_idents, inner_view, outer_view, scopes_view, no_declarations, IsClear}
-use Rattle.pas_scopes.specs.Declared.{IsDeclared}
+use Rattle.pas_scopes.specs.DeclaredSoFar.{IsDeclared}
 use Rattle.pas_types.specs.inner.Checking.{HasParameters}
 use Rattle.pas_scopes.proofs.AddedLemmas.{slot_at, slots_push}
 use Rattle.pas_scopes.proofs.GlobalLemmas.{AreKnown, slots_names, slots_known, slots_there, slots_held}

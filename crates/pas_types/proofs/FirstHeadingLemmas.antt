@@ -25,7 +25,7 @@ use Rattle.pas_rules.specs.Routines.{new_inner, heading_by, with_routine, first_
 use Rattle.pas_rules.specs.Scopes.{with_new}
 use Rattle.pas_scopes.specs.ScopeViews.{outer_view, inner_view, routine_view, made_view, IsClear}
 use Rattle.pas_scopes.specs.Answers.{FailsBy, IsQuiet}
-use Rattle.pas_scopes.specs.Declared.{IsCounted}
+use Rattle.pas_scopes.specs.DeclaredSoFar.{IsCounted}
 use Rattle.pas_scopes.specs.Locals.{IsMeasured, IsWaiting, AreWaiting, IsWithin}
 use Rattle.pas_types.specs.inner.RoutineAnswers.{parts_in, result_told, name_faults}
 use Rattle.pas_rules.specs.HeadingWords.{rest_words, parts_words}

@@ -17,7 +17,7 @@ use Rattle.pas_rules.specs.Check.{parameter_faults}
 use Rattle.pas_rules.specs.Scopes.{with_new}
 use Rattle.pas_scopes.specs.declared.scopes.Scopes.{Scopes as CodeScopes}
 use Rattle.pas_scopes.specs.ScopeViews.{outer_view}
-use Rattle.pas_scopes.specs.Declared.{IsHeld, AreHeld, IsFiled, AreFiled}
+use Rattle.pas_scopes.specs.DeclaredSoFar.{IsHeld, AreHeld, IsFiled, AreFiled}
 use Rattle.pas_types.specs.inner.RoutineAnswers.{ServesAs}
 use Rattle.pas_types.specs.inner.RoutineStands.{masked, served, IsHeldIf, IsNoted, names_by}
 use Rattle.pas_scopes.proofs.DeclaredLemmas.{entity_push}

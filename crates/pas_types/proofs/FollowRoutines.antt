@@ -14,7 +14,7 @@ use Rattle.pas_rules.specs.Declarations.{variables_of, InnerStage, local_row, mo
 use Rattle.pas_rules.specs.Declarations.{declared_labels}
 use Rattle.pas_rules.specs.Routines.{Sort, HeadingParts, HeadingStage, head_of, with_routine, awaited, awaited_by}
 use Rattle.pas_rules.specs.Routines.{headed_by, headed, with_body, parameters_known, inner_of, routine_by, routine_of}
-use Rattle.pas_scopes.specs.Declared.{AreThere, AreFiled, IsCounted}
+use Rattle.pas_scopes.specs.DeclaredSoFar.{AreThere, AreFiled, IsCounted}
 use Rattle.pas_scopes.proofs.CountedLemmas.{Longer, longer_same, longer_on, longer_length, IsMade, form_made}
 use Rattle.pas_scopes.proofs.CountedLemmas.{named_routine, there_append, all_there_more, counted_name, counted_longer}
 use Rattle.pas_scopes.proofs.LocalRowLemmas.{local_there}

@@ -18,7 +18,7 @@ use Rattle.pas_rules.specs.Routines.{RoutineStage, routines_of, all_stand}
 use Rattle.pas_rules.specs.Check.{start, parameter_marks, have_bodies, checked_of, fault_of}
 use Rattle.pas_scopes.specs.Ends.{AreQuiet}
 use Rattle.pas_scopes.specs.Answers.{IsQuiet, Shows}
-use Rattle.pas_scopes.specs.Declared.{Notes}
+use Rattle.pas_scopes.specs.DeclaredSoFar.{Notes}
 use Rattle.pas_types.specs.inner.Checking.{main_words, main_part}
 use Rattle.pas_rules.proofs.AsMany.{AsMany, and_then, next_word}
 use Rattle.pas_rules.proofs.StatementsAsMany.{statements_many}

@@ -19,7 +19,7 @@ use Rattle.pas_rules.specs.Declarations.{program_scopes}
 use Rattle.pas_rules.specs.Routines.{RoutineStage, routine_of, routines_of}
 use Rattle.pas_rules.specs.Scopes.{with_new}
 use Rattle.pas_scopes.specs.ScopeViews.{outer_view, IsClear}
-use Rattle.pas_scopes.specs.Declared.{IsDeclared, IsAlike, IsCounted, AreFiled, Notes}
+use Rattle.pas_scopes.specs.DeclaredSoFar.{IsDeclared, IsAlike, IsCounted, AreFiled, Notes}
 use Rattle.pas_scopes.specs.Locals.{AreWaiting}
 use Rattle.pas_types.specs.inner.RoutineAnswers.{IsReady, GoesThrough, IsBehind}
 use Rattle.pas_types.specs.inner.BlockAnswers.{IsRoutine}

@@ -14,7 +14,7 @@ use Rattle.pas_scopes.specs.declared.scopes.Scopes.{Scopes as CodeScopes}
 use Rattle.pas_scopes.specs.declared.stop.Stop.{Stop}
 use Rattle.pas_rules.specs.Declarations.{label_marks}
 use Rattle.pas_rules.specs.Check.{start}
-use Rattle.pas_scopes.specs.Declared.{IsDeclared, Notes}
+use Rattle.pas_scopes.specs.DeclaredSoFar.{IsDeclared, Notes}
 use Rattle.pas_types.specs.inner.LabelViews.{Known}
 use Rattle.pas_types.specs.inner.Programs.{LabelsIf, GoesOver, ComesTo, FaultBy, IsFaultless}
 use Rattle.pas_types.proofs.WholeLemmas.{GoesFrom, goes_whole, comes_to}

@@ -38,7 +38,7 @@ use Rattle.pas_rules.specs.Check.{start, parameter_faults, each_parameter, param
 use Rattle.pas_rules.specs.Check.{file_numbers, parameter_names, checked_of, Means}
 use Rattle.pas_scopes.specs.ScopeViews.{routine_view, outer_view, scopes_view, IsClear}
 use Rattle.pas_scopes.specs.Answers.{IsQuiet, FailsBy}
-use Rattle.pas_scopes.specs.Declared.{first_noted, IsDeclared, Notes, Declares}
+use Rattle.pas_scopes.specs.DeclaredSoFar.{first_noted, IsDeclared, Notes, Declares}
 use Rattle.pas_types.specs.inner.LabelViews.{Known, numbers_of, known_labels}
 use Rattle.pas_types.specs.inner.RoutineAnswers.{GoesThrough, ServesAs, IsBehind}
 use Rattle.pas_types.specs.inner.Checking.{main_part, IsWhole, IsHeading}

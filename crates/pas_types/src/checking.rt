@@ -23,7 +23,7 @@ ghost use Rattle.pas_scopes.specs.NameViews.{entity_view};
 ghost use Rattle.pas_rules.specs.Scopes.{with_name};
 ghost use Rattle.pas_scopes.specs.ScopeViews.{scopes_view, IsClear};
 ghost use Rattle.pas_scopes.specs.Answers.{Settles};
-ghost use Rattle.pas_scopes.specs.Declared.{IsDeclared};
+ghost use Rattle.pas_scopes.specs.DeclaredSoFar.{IsDeclared};
 ghost use Rattle.pas_types.specs.inner.LabelViews.{known_labels};
 ghost use Rattle.pas_types.specs.inner.Checking.{HasParameters, main_words, main_part, lacking, stop_at, IsWhole};
 ghost use Rattle.pas_types.specs.inner.Checking.{IsParameter, AreParameters, IsHeading};

@@ -9,7 +9,7 @@ ghost use Rattle.pas_syntax.specs.Words.{words_if, labels_words};
 ghost use Rattle.pas_scopes.specs.declared.stop.Stop.TheVariants as stop;
 ghost use Rattle.pas_rules.specs.Declarations.{label_marks};
 ghost use Rattle.pas_rules.specs.Check as spec;
-ghost use Rattle.pas_scopes.specs.Declared.{IsDeclared, Notes};
+ghost use Rattle.pas_scopes.specs.DeclaredSoFar.{IsDeclared, Notes};
 ghost use Rattle.pas_types.specs.inner.LabelViews.{numbers_of};
 ghost use Rattle.pas_types.specs.inner.Programs.{LabelsIf, GoesOver, ComesTo, not_noted, IsFaultlessBy, Checks};
 ghost use Rattle.pas_scopes.specs.ScopeViews.{outer_view};

@@ -18,7 +18,7 @@ use Rattle.pas_rules.specs.Statements.{statements_of}
 use Rattle.pas_rules.specs.Routines.{RoutineStage, routines_of}
 use Rattle.pas_rules.specs.Check.{start, fault_of, Means, IsFaultOf}
 use Rattle.pas_scopes.specs.ScopeViews.{outer_view}
-use Rattle.pas_scopes.specs.Declared.{Notes}
+use Rattle.pas_scopes.specs.DeclaredSoFar.{Notes}
 use Rattle.pas_types.specs.inner.LabelViews.{Known, known_labels}
 use Rattle.pas_types.specs.inner.RoutineAnswers.{IsBehind}
 

@@ -5,12 +5,11 @@ use Rattle.std.specs.Option.{option_copied}
 use Rattle.wb_base.specs.declared.faults.Fault.{Fault}
 use Rattle.wb_base.specs.declared.faults.TheConstants.{DUPLICATE_NAME, TOO_LARGE}
 use Rattle.pas_tokens.specs.Cutting.{Wrong, wrong}
-use Rattle.pas_tokens.specs.declared.kinds.Kind.TheVariants as k
 use Rattle.pas_syntax.specs.Tree.{Ident, Behind, TypeName}
 use Rattle.pas_syntax.specs.declared.tree.Ident.{Ident as CodeIdent}
 use Rattle.pas_syntax.specs.Views.{spelled_in, ident_in, behind_in, if_there}
 use Rattle.pas_syntax.specs.ProgramViews.{parameters_in, type_name_in}
-use Rattle.pas_syntax.specs.Words.{Word, at, name_at, words_if, parameters_words, result_words}
+use Rattle.pas_syntax.specs.Words.{Word, name_at}
 use Rattle.pas_typed.specs.declared.types.PasType.{PasType as CodePasType}
 use Rattle.pas_typed.specs.declared.typed.Body.{Body as CodeBody}
 use Rattle.pas_typed.specs.Types.{PasType, Made}
@@ -31,7 +30,7 @@ use Rattle.pas_rules.specs.Check.{parameter_faults}
 use Rattle.pas_rules.specs.Scopes.{with_new}
 use Rattle.pas_scopes.specs.ScopeViews.{outer_view, scopes_view, IsClear}
 use Rattle.pas_scopes.specs.Answers.{IsQuiet, Means, FailsBy}
-use Rattle.pas_scopes.specs.Declared.{IsDeclared, Notes}
+use Rattle.pas_scopes.specs.DeclaredSoFar.{IsDeclared, Notes}
 use Rattle.pas_scopes.specs.Locals.{IsLawful, Leaves}
 
 -- the parts of a heading as the definition has them

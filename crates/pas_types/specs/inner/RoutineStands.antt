@@ -11,7 +11,7 @@ use Rattle.pas_rules.specs.Scopes.{Entity, variable, routine, unclear, Named, Ou
 use Rattle.pas_rules.specs.Routines.{RoutineStage}
 use Rattle.pas_rules.specs.Scopes.{with_new}
 use Rattle.pas_scopes.specs.ScopeViews.{outer_view}
-use Rattle.pas_scopes.specs.Declared.{IsHeld, AreFiled, IsCounted, Notes}
+use Rattle.pas_scopes.specs.DeclaredSoFar.{IsHeld, AreFiled, IsCounted, Notes}
 use Rattle.pas_types.specs.inner.RoutineAnswers.{IsReady}
 
 -- what a name stands for, as far as it may be that of a file of the program

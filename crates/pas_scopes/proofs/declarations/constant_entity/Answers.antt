@@ -5,7 +5,7 @@ use Rattle.pas_syntax.specs.Words.{constant_words}
 use Rattle.pas_rules.specs.Marks.{Judged}
 use Rattle.pas_rules.specs.TypeForms.{ConstantValue, constant_of}
 use Rattle.pas_scopes.specs.ScopeViews.{scopes_view, IsClear}
-use Rattle.pas_scopes.specs.Declared.{constant_meant, NotesIf}
+use Rattle.pas_scopes.specs.DeclaredSoFar.{constant_meant, NotesIf}
 use Rattle.pas_scopes.proofs.AnswerLemmas.{stops_fails}
 use Rattle.pas_scopes.proofs.DeclaredLemmas.{notes_why, notes_found, unknown_why, fault_noted}
 use Rattle.pas_scopes.proofs.declarations.constant_entity.Goals as goal

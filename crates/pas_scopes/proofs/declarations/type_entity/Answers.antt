@@ -7,7 +7,7 @@ use Rattle.pas_typed.specs.TypeViews.{table_view}
 use Rattle.pas_rules.specs.TypeForms.{form_of}
 use Rattle.pas_rules.specs.Declarations.{types_behind}
 use Rattle.pas_scopes.specs.ScopeViews.{made_view, IsClear}
-use Rattle.pas_scopes.specs.Declared.{first_noted, type_meant}
+use Rattle.pas_scopes.specs.DeclaredSoFar.{first_noted, type_meant}
 use Rattle.pas_scopes.proofs.KeptLemmas.{spellings_kept}
 use Rattle.pas_scopes.proofs.DeclaredLemmas.{unknown_why}
 use Rattle.pas_scopes.proofs.TypeNoteLemmas.{notes_found_form, notes_stopped_form, none_stopped}

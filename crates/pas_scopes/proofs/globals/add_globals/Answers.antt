@@ -11,7 +11,7 @@ use Rattle.pas_scopes.specs.declared.scopes.Scopes.{Scopes as CodeScopes}
 use Rattle.pas_rules.specs.Declarations.{named_slots, variables_of}
 use Rattle.pas_rules.specs.Scopes.{with_new}
 use Rattle.pas_scopes.specs.ScopeViews.{all_idents}
-use Rattle.pas_scopes.specs.Declared.{with_each}
+use Rattle.pas_scopes.specs.DeclaredSoFar.{with_each}
 use Rattle.pas_scopes.proofs.AddedLemmas.{no_name, seen, so_far, so_far_all, seen_all, slot_at, added_next, added_view}
 use Rattle.pas_scopes.proofs.globals.add_globals.Goals as goal
 

@@ -6,7 +6,7 @@ use Rattle.pas_scopes.specs.declared.scopes.Scopes.{Scopes as CodeScopes}
 use Rattle.pas_rules.specs.Scopes.{unclear}
 use Rattle.pas_rules.specs.Declarations.{unclear_names}
 use Rattle.pas_rules.specs.Scopes.{with_new}
-use Rattle.pas_scopes.specs.Declared.{with_each}
+use Rattle.pas_scopes.specs.DeclaredSoFar.{with_each}
 use Rattle.pas_scopes.proofs.AddedLemmas.{no_name, seen, so_far_all, seen_all, unknown_next}
 use Rattle.pas_scopes.proofs.globals.add_unclear.Goals as goal
 

@@ -6,7 +6,7 @@ use Rattle.pas_syntax.specs.ProgramViews.{variable_row_in, rows_in}
 use Rattle.pas_syntax.specs.Words.{variable_row_words}
 use Rattle.pas_scopes.specs.declared.scopes.Scopes.{Scopes as CodeScopes}
 use Rattle.pas_rules.specs.Declarations.{global_row}
-use Rattle.pas_scopes.specs.Declared.{Declares}
+use Rattle.pas_scopes.specs.DeclaredSoFar.{Declares}
 use Rattle.pas_rules.proofs.DeclarationsAsMany.{global_row_many}
 use Rattle.pas_scopes.proofs.RowLemmas.{leads_first, one_row_more, all_rows, part_declares, all_words, stage_of}
 use Rattle.pas_scopes.proofs.globals.global_rows.Goals as goal

@@ -15,7 +15,7 @@ use Rattle.pas_rules.specs.Declarations.{program_scopes, types_behind, global_on
 use Rattle.pas_scopes.specs.ScopeViews.{made_view, IsClear}
 use Rattle.pas_scopes.specs.Answers.{end_in, EndsAs}
 use Rattle.pas_scopes.specs.FormAnswers.{FoundIf}
-use Rattle.pas_scopes.specs.Declared.{first_noted, global_form, IsLike}
+use Rattle.pas_scopes.specs.DeclaredSoFar.{first_noted, global_form, IsLike}
 use Rattle.pas_scopes.proofs.KeptLemmas.{spellings_kept}
 use Rattle.pas_scopes.proofs.DeclaredLemmas.{unknown_why}
 use Rattle.pas_scopes.proofs.TypeNoteLemmas.{notes_found_form, notes_stopped_form, none_stopped}

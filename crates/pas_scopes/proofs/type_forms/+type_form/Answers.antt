@@ -3,7 +3,7 @@ use Rattle.std.proofs.Common.{Result, Ok, Err, ◌≢◌}
 use Rattle.std.specs.Prelude.{OnOk}
 use Rattle.pas_scopes.specs.declared.stop.Stop.{Stop}
 use Rattle.pas_scopes.specs.declared.stop.Stop.TheVariants as stop
-use Rattle.pas_scopes.specs.Declared.{first_noted}
+use Rattle.pas_scopes.specs.DeclaredSoFar.{first_noted}
 use Rattle.pas_scopes.specs.Constants.{IsUnknownBy}
 use Rattle.pas_scopes.specs.NameAnswers.{AreNewNames}
 use Rattle.wb_base.specs.declared.faults.Fault.{Fault}
