@@ -17,26 +17,26 @@ use Rattle.pas_syntax.specs.Tree.{Ident, Behind, Expr}
 use Rattle.pas_syntax.specs.Words.{Word, at, name_at, expr_words, words_if, width_words, argument_words, plain_words}
 use Rattle.pas_syntax.specs.Views.{behind_in}
 use Rattle.pas_syntax.specs.ProgramViews.{argument_in, arguments_in}
-use Rattle.pas_types.specs.declared.stop.Stop.{Stop}
-use Rattle.pas_types.specs.declared.stop.Stop.TheVariants as stop
-use Rattle.pas_types.specs.Marks.{Marks, shows, first_of, at_first, followed, joined, Judged, checked}
-use Rattle.pas_types.specs.Marks.{first_fault}
+use Rattle.pas_scopes.specs.declared.stop.Stop.{Stop}
+use Rattle.pas_scopes.specs.declared.stop.Stop.TheVariants as stop
+use Rattle.pas_rules.specs.Marks.{Marks, shows, first_of, at_first, followed, joined, Judged, checked}
+use Rattle.pas_rules.specs.Marks.{first_fault}
 use Rattle.pas_typed.specs.Typed.{Value}
-use Rattle.pas_types.specs.Scopes.{Scopes}
-use Rattle.pas_types.specs.Expressions.{Given, bare_argument, value_of, asked_nothing}
-use Rattle.pas_types.specs.Calls.{actual_of, actuals_of, without_width, no_width, width_of}
-use Rattle.pas_types.specs.inner.Ends.{shown_behind}
-use Rattle.pas_types.specs.inner.Stopping.{shown_in}
-use Rattle.pas_types.specs.inner.Answers.{Ending, StandsAs, FailsBy, Shows, IsQuiet}
-use Rattle.pas_types.specs.inner.Arguments.{Taker, taken_by}
-use Rattle.pas_types.proofs.AsMany.{AsMany, all, and_then, next_word, checked_many}
-use Rattle.pas_types.proofs.EndLemmas.{behind_quiet, quiet_many}
-use Rattle.pas_types.proofs.PartLemmas.{alone}
-use Rattle.pas_types.proofs.SettleLemmas.{shows_front}
-use Rattle.pas_types.proofs.ExpressionWords.{expr_some}
-use Rattle.pas_types.proofs.ExpressionsAsMany.{value_many}
-use Rattle.pas_types.proofs.CallsAsMany.{width_many, argument_many}
-use Rattle.pas_types.proofs.ArgumentLemmas.{Argued, AreArgued, argued_words, givens_of, stands_quiet}
+use Rattle.pas_rules.specs.Scopes.{Scopes}
+use Rattle.pas_rules.specs.Expressions.{Given, bare_argument, value_of, asked_nothing}
+use Rattle.pas_rules.specs.Calls.{actual_of, actuals_of, without_width, no_width, width_of}
+use Rattle.pas_scopes.specs.Ends.{shown_behind}
+use Rattle.pas_scopes.specs.Stopping.{shown_in}
+use Rattle.pas_scopes.specs.Answers.{Ending, StandsAs, FailsBy, Shows, IsQuiet}
+use Rattle.pas_scopes.specs.Arguments.{Taker, taken_by}
+use Rattle.pas_rules.proofs.AsMany.{AsMany, all, and_then, next_word, checked_many}
+use Rattle.pas_scopes.proofs.EndLemmas.{behind_quiet, quiet_many}
+use Rattle.pas_scopes.proofs.PartLemmas.{alone}
+use Rattle.pas_scopes.proofs.SettleLemmas.{shows_front}
+use Rattle.pas_rules.proofs.ExpressionWords.{expr_some}
+use Rattle.pas_rules.proofs.ExpressionsAsMany.{value_many}
+use Rattle.pas_rules.proofs.CallsAsMany.{width_many, argument_many}
+use Rattle.pas_scopes.proofs.ArgumentLemmas.{Argued, AreArgued, argued_words, givens_of, stands_quiet}
 
 -- a part and what stands behind it
 front_fails : (words more : List Word) (part next : Marks) (why : Stop) → AsMany more next → FailsBy words part why

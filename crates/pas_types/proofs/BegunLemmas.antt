@@ -23,21 +23,21 @@ use Rattle.pas_typed.specs.Types.{text}
 use Rattle.pas_typed.specs.Typed.{declared, global, Variable}
 use Rattle.pas_typed.specs.TypedViews.{variable_view}
 use Rattle.pas_typed.specs.TypeViews.{counted, table_view}
-use Rattle.pas_types.specs.declared.scopes.Inner.{Inner as CodeInner}
-use Rattle.pas_types.specs.declared.scopes.Scopes.{Scopes as CodeScopes}
-use Rattle.pas_types.specs.Scopes.{Named, names, names_of, contains, standard_names, Outer, entity_in, required}
-use Rattle.pas_types.specs.Scopes.{unclear, idents_of, Scopes}
-use Rattle.pas_types.specs.Labels.{label_at_end}
-use Rattle.pas_types.specs.Declarations.{named_slots, variables_of, program_scopes, cells_together, declared_labels}
-use Rattle.pas_types.specs.Declarations.{cells_of_variable}
-use Rattle.pas_types.specs.Check.{parameter_idents, parameter_names, each_once, start}
-use Rattle.pas_types.specs.NameViews.{with_new, with_name}
-use Rattle.pas_types.specs.ScopeViews.{all_idents, inner_view, outer_view, scopes_view, no_declarations, IsClear}
-use Rattle.pas_types.specs.inner.Declared.{IsDeclared}
+use Rattle.pas_scopes.specs.declared.scopes.Inner.{Inner as CodeInner}
+use Rattle.pas_scopes.specs.declared.scopes.Scopes.{Scopes as CodeScopes}
+use Rattle.pas_rules.specs.Scopes.{Named, names, names_of, contains, standard_names, Outer, entity_in, required}
+use Rattle.pas_rules.specs.Scopes.{unclear, idents_of, Scopes}
+use Rattle.pas_rules.specs.Labels.{label_at_end}
+use Rattle.pas_rules.specs.Declarations.{named_slots, variables_of, program_scopes, cells_together, declared_labels}
+use Rattle.pas_rules.specs.Declarations.{cells_of_variable}
+use Rattle.pas_rules.specs.Check.{parameter_idents, parameter_names, each_once, start}
+use Rattle.pas_rules.specs.Scopes.{with_new, with_name}
+use Rattle.pas_scopes.specs.ScopeViews.{all_idents, inner_view, outer_view, scopes_view, no_declarations, IsClear}
+use Rattle.pas_scopes.specs.DeclaredSoFar.{IsDeclared}
 use Rattle.pas_types.specs.inner.Checking.{HasParameters}
-use Rattle.pas_types.proofs.AddedLemmas.{slot_at, slots_push}
-use Rattle.pas_types.proofs.GlobalLemmas.{AreKnown, slots_names, slots_known, slots_there, slots_held}
-use Rattle.pas_types.proofs.GlobalLemmas.{variables_typed, clear_each}
+use Rattle.pas_scopes.proofs.AddedLemmas.{slot_at, slots_push}
+use Rattle.pas_scopes.proofs.GlobalLemmas.{AreKnown, slots_names, slots_known, slots_there, slots_held}
+use Rattle.pas_scopes.proofs.GlobalLemmas.{variables_typed, clear_each}
 
 abbrev texts : List (List ℕ) → List (List ℕ)
 texts parameters = filter (contains standard_names) parameters

@@ -10,16 +10,16 @@ use Rattle.pas_typed.specs.declared.typed.Body.{Body as CodeBody}
 use Rattle.pas_typed.specs.declared.typed.Labelled as code_labelled
 use Rattle.pas_typed.specs.TypeViews.{table_view}
 use Rattle.pas_typed.specs.TypedViews.{statements_view, body_view}
-use Rattle.pas_types.specs.declared.scopes.Inner.{Inner as CodeInner}
-use Rattle.pas_types.specs.declared.scopes.Scopes.{Scopes as CodeScopes}
-use Rattle.pas_types.specs.declared.stop.Stop.{Stop}
-use Rattle.pas_types.specs.Scopes.{Outer, Inner}
-use Rattle.pas_types.specs.Declarations.{declared_labels, label_marks, local_rows, InnerStage}
-use Rattle.pas_types.specs.Routines.{Sort, inner_of}
-use Rattle.pas_types.specs.ScopeViews.{outer_view, inner_view, scopes_view}
-use Rattle.pas_types.specs.inner.Answers.{IsQuiet}
+use Rattle.pas_scopes.specs.declared.scopes.Inner.{Inner as CodeInner}
+use Rattle.pas_scopes.specs.declared.scopes.Scopes.{Scopes as CodeScopes}
+use Rattle.pas_scopes.specs.declared.stop.Stop.{Stop}
+use Rattle.pas_rules.specs.Scopes.{Outer, Inner}
+use Rattle.pas_rules.specs.Declarations.{declared_labels, label_marks, local_rows, InnerStage}
+use Rattle.pas_rules.specs.Routines.{Sort, inner_of}
+use Rattle.pas_scopes.specs.ScopeViews.{outer_view, inner_view, scopes_view}
+use Rattle.pas_scopes.specs.Answers.{IsQuiet}
 use Rattle.pas_types.specs.inner.LabelViews.{Known, numbers_of, known_labels}
-use Rattle.pas_types.specs.inner.Locals.{IsWithin, Leaves, Passes}
+use Rattle.pas_scopes.specs.Locals.{IsWithin, Leaves, Passes}
 use Rattle.pas_types.specs.inner.RoutineAnswers.{awaited_at, IsReady}
 use Rattle.pas_types.specs.inner.BlockAnswers.{without_awaited, IsBody, begun, local_part, Leads, IsBlock}
 use Rattle.pas_types.proofs.PlainSeen.{body_seen}

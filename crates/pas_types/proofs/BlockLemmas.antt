@@ -10,29 +10,29 @@ use Rattle.pas_syntax.specs.Tree.{Compound}
 use Rattle.pas_syntax.specs.Words.{Word, at, statements_words}
 use Rattle.pas_typed.specs.declared.typed.Labelled as code_labelled
 use Rattle.pas_types.specs.declared.flow.Flow.{Flow}
-use Rattle.pas_types.specs.declared.scopes.Inner.{Inner as CodeInner}
-use Rattle.pas_types.specs.declared.scopes.Scopes.{Scopes as CodeScopes}
-use Rattle.pas_types.specs.declared.stop.Stop.{Stop}
-use Rattle.pas_types.specs.declared.stop.Stop.TheVariants as stop
+use Rattle.pas_scopes.specs.declared.scopes.Inner.{Inner as CodeInner}
+use Rattle.pas_scopes.specs.declared.scopes.Scopes.{Scopes as CodeScopes}
+use Rattle.pas_scopes.specs.declared.stop.Stop.{Stop}
+use Rattle.pas_scopes.specs.declared.stop.Stop.TheVariants as stop
 use Rattle.pas_typed.specs.Typed as typed
-use Rattle.pas_types.specs.Marks.{Marks, quiet, shows, first_of, followed, joined, unless, lowest, first_fault, Judged}
-use Rattle.pas_types.specs.Scopes.{Scopes}
-use Rattle.pas_types.specs.Labels.{labels_in_list, labels_of_list}
-use Rattle.pas_types.specs.Routines.{Sort, procedure, function, list_gives_result, result_missing, all_stand}
-use Rattle.pas_types.specs.ScopeViews.{outer_view, inner_view, scopes_view}
-use Rattle.pas_types.specs.inner.Stopping.{stop_before, demanded, found_before, shown_in}
-use Rattle.pas_types.specs.inner.Answers.{Shows, FailsBy, IsQuiet, ShowsBy, Settles, Means}
+use Rattle.pas_rules.specs.Marks.{Marks, quiet, shows, first_of, followed, joined, unless, lowest, first_fault, Judged}
+use Rattle.pas_rules.specs.Scopes.{Scopes}
+use Rattle.pas_rules.specs.Labels.{labels_in_list, labels_of_list}
+use Rattle.pas_rules.specs.Routines.{Sort, procedure, function, list_gives_result, result_missing, all_stand}
+use Rattle.pas_scopes.specs.ScopeViews.{outer_view, inner_view, scopes_view}
+use Rattle.pas_scopes.specs.Stopping.{stop_before, demanded, found_before, shown_in}
+use Rattle.pas_scopes.specs.Answers.{Shows, FailsBy, IsQuiet, ShowsBy, Settles, Means}
 use Rattle.pas_types.specs.inner.FlowViews.{IsFlow, IsBeside}
 use Rattle.pas_types.specs.inner.LabelViews.{known_labels, all_stand_in}
-use Rattle.pas_types.specs.inner.Locals.{IsWithin}
+use Rattle.pas_scopes.specs.Locals.{IsWithin}
 use Rattle.pas_types.specs.inner.BlockAnswers.{list_in, end_faults, body_marks, closed_words, IsBody}
-use Rattle.pas_types.proofs.AsMany.{AsMany, and_then, next_word}
-use Rattle.pas_types.proofs.StatementsAsMany.{statements_many}
+use Rattle.pas_rules.proofs.AsMany.{AsMany, and_then, next_word}
+use Rattle.pas_rules.proofs.StatementsAsMany.{statements_many}
 use Rattle.pas_types.proofs.LabelRules.{all_stand_known}
-use Rattle.pas_types.proofs.WithinLemmas.{seen_is, seen_scopes}
-use Rattle.pas_types.proofs.EndLemmas.{behind_quiet, quiet_many}
-use Rattle.pas_types.proofs.SettleLemmas.{quiet_word, quiet_alone, quiet_behind, found_stops}
-use Rattle.pas_types.proofs.LocalRowLemmas.{fails_front, fails_behind}
+use Rattle.pas_scopes.proofs.WithinLemmas.{seen_is, seen_scopes}
+use Rattle.pas_scopes.proofs.EndLemmas.{behind_quiet, quiet_many}
+use Rattle.pas_scopes.proofs.SettleLemmas.{quiet_word, quiet_alone, quiet_behind, found_stops}
+use Rattle.pas_scopes.proofs.LocalRowLemmas.{fails_front, fails_behind}
 
 -- the faults of an `end`: what is missing before it is told first, then a label, then the result
 lowest_two : (a b : Bool)

@@ -12,25 +12,25 @@ use Rattle.pas_typed.specs.Types.{Table}
 use Rattle.pas_typed.specs.Typed as typed
 use Rattle.pas_typed.specs.Typed.{Variable}
 use Rattle.pas_typed.specs.TypedViews.{statements_view, variable_view, body_view}
-use Rattle.pas_types.specs.declared.scopes.Inner.{Inner as CodeInner}
-use Rattle.pas_types.specs.declared.scopes.Scopes.{Scopes as CodeScopes}
-use Rattle.pas_types.specs.declared.stop.Stop.{Stop}
-use Rattle.pas_types.specs.Marks.{Marks, quiet, shows, joined, known}
-use Rattle.pas_types.specs.Scopes.{Named, Scopes, Outer, Inner, entity_in, or_else, names_inside, required}
-use Rattle.pas_types.specs.Labels.{labels_of_list}
-use Rattle.pas_types.specs.Declarations.{declared_labels, label_marks, routine_scopes, InnerStage}
-use Rattle.pas_types.specs.Routines.{Sort, inner_of, body_made}
-use Rattle.pas_types.specs.ScopeViews.{outer_view, inner_view, scopes_view, IsClear}
-use Rattle.pas_types.specs.inner.Answers.{FailsBy, IsQuiet}
-use Rattle.pas_types.specs.inner.Locals.{Leaves}
+use Rattle.pas_scopes.specs.declared.scopes.Inner.{Inner as CodeInner}
+use Rattle.pas_scopes.specs.declared.scopes.Scopes.{Scopes as CodeScopes}
+use Rattle.pas_scopes.specs.declared.stop.Stop.{Stop}
+use Rattle.pas_rules.specs.Marks.{Marks, quiet, shows, joined, known}
+use Rattle.pas_rules.specs.Scopes.{Named, Scopes, Outer, Inner, entity_in, or_else, names_inside, required}
+use Rattle.pas_rules.specs.Labels.{labels_of_list}
+use Rattle.pas_rules.specs.Declarations.{declared_labels, label_marks, routine_scopes, InnerStage}
+use Rattle.pas_rules.specs.Routines.{Sort, inner_of, body_made}
+use Rattle.pas_scopes.specs.ScopeViews.{outer_view, inner_view, scopes_view, IsClear}
+use Rattle.pas_scopes.specs.Answers.{FailsBy, IsQuiet}
+use Rattle.pas_scopes.specs.Locals.{Leaves}
 use Rattle.pas_types.specs.inner.BlockAnswers.{list_in, end_faults, body_marks, closed_words, IsBody, begun, local_part}
 use Rattle.pas_types.specs.inner.BlockAnswers.{ended, block_marks, block_words, Leads}
-use Rattle.pas_types.proofs.AsMany.{AsMany, one, and_then, all, next_word}
-use Rattle.pas_types.proofs.StatementsAsMany.{statements_many}
-use Rattle.pas_types.proofs.DeclarationsAsMany.{labels_many, local_rows_many}
-use Rattle.pas_types.proofs.SettleLemmas.{quiet_behind}
-use Rattle.pas_types.proofs.LocalRowLemmas.{fails_front, fails_behind}
-use Rattle.pas_types.proofs.WithinLemmas.{seen_is}
+use Rattle.pas_rules.proofs.AsMany.{AsMany, one, and_then, all, next_word}
+use Rattle.pas_rules.proofs.StatementsAsMany.{statements_many}
+use Rattle.pas_rules.proofs.DeclarationsAsMany.{labels_many, local_rows_many}
+use Rattle.pas_scopes.proofs.SettleLemmas.{quiet_behind}
+use Rattle.pas_scopes.proofs.LocalRowLemmas.{fails_front, fails_behind}
+use Rattle.pas_scopes.proofs.WithinLemmas.{seen_is}
 use Rattle.pas_types.proofs.EnterLemmas.{rows_stay}
 
 pub closed_many : (scopes : Scopes) (sort : Sort) (labels : List ℕ) (body : Compound) (line : ℕ)

@@ -22,7 +22,7 @@ use Rattle.pas_typed.proofs.StatementViews.{statement_view-Repeat, statement_vie
 use Rattle.pas_typed.proofs.StatementViews.{statement_view-GotoLast, statement_view-Steps, statement_view-Reads}
 use Rattle.pas_typed.proofs.StatementViews.{statement_view-ReadsLine, statement_view-Writes, statement_view-WritesLine}
 use Rattle.pas_typed.proofs.StatementViews.{statement_view-WritesBytes, statement_view-Halts}
-use Rattle.pas_types.specs.Statements.{list_of}
+use Rattle.pas_rules.specs.Statements.{list_of}
 
 -- a statement as a list by itself
 abbrev alone : typed.Statement → typed.Statements

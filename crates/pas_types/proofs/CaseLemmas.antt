@@ -14,23 +14,23 @@ use Rattle.pas_tokens.specs.declared.kinds.Kind.TheVariants as kind
 use Rattle.pas_syntax.specs.Tree.{Behind, Separated, Constant}
 use Rattle.pas_syntax.specs.Words.{Word, at, constant_words}
 use Rattle.pas_typed.specs.Types.{Base, same_base}
-use Rattle.pas_types.specs.declared.stop.Stop.{Stop}
-use Rattle.pas_types.specs.declared.stop.Stop.TheVariants as stop
-use Rattle.pas_types.specs.Marks.{Marks, no_token, quiet, followed, joined, Judged, judged, known, both, checked}
-use Rattle.pas_types.specs.Marks.{checked_by, kept_by, unless}
-use Rattle.pas_types.specs.Scopes.{Scopes}
-use Rattle.pas_types.specs.TypeForms.{ConstantValue, constant_of}
-use Rattle.pas_types.specs.Statements.{is_same, has_value, fits_case, values_known, with_constant, more_constants}
-use Rattle.pas_types.specs.Statements.{constants_of}
-use Rattle.pas_types.specs.inner.Stopping.{demanded}
-use Rattle.pas_types.specs.inner.Answers.{lawful_end, EndsAs, Means, Shows, FailsBy}
+use Rattle.pas_scopes.specs.declared.stop.Stop.{Stop}
+use Rattle.pas_scopes.specs.declared.stop.Stop.TheVariants as stop
+use Rattle.pas_rules.specs.Marks.{Marks, no_token, quiet, followed, joined, Judged, judged, known, both, checked}
+use Rattle.pas_rules.specs.Marks.{checked_by, kept_by, unless}
+use Rattle.pas_rules.specs.Scopes.{Scopes}
+use Rattle.pas_rules.specs.TypeForms.{ConstantValue, constant_of}
+use Rattle.pas_rules.specs.Statements.{is_same, has_value, fits_case, values_known, with_constant, more_constants}
+use Rattle.pas_rules.specs.Statements.{constants_of}
+use Rattle.pas_scopes.specs.Stopping.{demanded}
+use Rattle.pas_scopes.specs.Answers.{lawful_end, EndsAs, Means, Shows, FailsBy}
 use Rattle.pas_types.specs.inner.CaseViews.{Holds, choice_part}
-use Rattle.pas_types.proofs.AsMany.{AsMany, all, next_word, checked_many}
-use Rattle.pas_types.proofs.TypesAsMany.{constant_many}
-use Rattle.pas_types.proofs.EndLemmas.{end_quiet}
-use Rattle.pas_types.proofs.AnswerLemmas.{checked_fails, checked_ends}
-use Rattle.pas_types.proofs.SettleLemmas.{shows_front, shows_behind, quiet_behind, quiet_alone, shows_alone}
-use Rattle.pas_types.proofs.SettleLemmas.{nothing_shown}
+use Rattle.pas_rules.proofs.AsMany.{AsMany, all, next_word, checked_many}
+use Rattle.pas_rules.proofs.TypesAsMany.{constant_many}
+use Rattle.pas_scopes.proofs.EndLemmas.{end_quiet}
+use Rattle.pas_scopes.proofs.AnswerLemmas.{checked_fails, checked_ends}
+use Rattle.pas_scopes.proofs.SettleLemmas.{shows_front, shows_behind, quiet_behind, quiet_alone, shows_alone}
+use Rattle.pas_scopes.proofs.SettleLemmas.{nothing_shown}
 use Rattle.pas_types.proofs.ChainLemmas.{made_of_both, behind_quiet, word_shows}
 
 -- an early return

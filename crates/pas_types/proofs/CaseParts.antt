@@ -26,31 +26,31 @@ use Rattle.pas_typed.specs.Typed.{Value, Arms}
 use Rattle.pas_typed.specs.TypeViews.{base_view}
 use Rattle.pas_typed.specs.TypedViews.{statement_view, arm_view, arms_view}
 use Rattle.pas_types.specs.declared.flow.Flow.{Flow}
-use Rattle.pas_types.specs.declared.scopes.Scopes.{Scopes as CodeScopes}
-use Rattle.pas_types.specs.declared.stop.Stop.{Stop}
-use Rattle.pas_types.specs.declared.stop.Stop.TheVariants as stop
-use Rattle.pas_types.specs.Marks.{Marks, no_token, quiet, first_of, followed, joined, Judged, known}
-use Rattle.pas_types.specs.Marks.{known_of, checked}
-use Rattle.pas_types.specs.Scopes.{Scopes}
-use Rattle.pas_types.specs.TypeForms.{maybe_quiet}
-use Rattle.pas_types.specs.Labels.{elsewhere, labels_at, labels_in_elements}
-use Rattle.pas_types.specs.Expressions.{ordinal_only, value_of}
-use Rattle.pas_types.specs.Statements.{constants_of, constants_in, statement_of, arms_of, others_of, with_arm, plain_of}
-use Rattle.pas_types.specs.Statements.{values_known, base_of_value}
-use Rattle.pas_types.specs.ScopeViews.{scopes_view, IsClear}
-use Rattle.pas_types.specs.inner.Stopping.{stop_before}
-use Rattle.pas_types.specs.inner.Answers.{IsQuiet, Means, FailsBy, ShowsBy, Settles}
+use Rattle.pas_scopes.specs.declared.scopes.Scopes.{Scopes as CodeScopes}
+use Rattle.pas_scopes.specs.declared.stop.Stop.{Stop}
+use Rattle.pas_scopes.specs.declared.stop.Stop.TheVariants as stop
+use Rattle.pas_rules.specs.Marks.{Marks, no_token, quiet, first_of, followed, joined, Judged, known}
+use Rattle.pas_rules.specs.Marks.{known_of, checked}
+use Rattle.pas_rules.specs.Scopes.{Scopes}
+use Rattle.pas_rules.specs.TypeForms.{maybe_quiet}
+use Rattle.pas_rules.specs.Labels.{elsewhere, labels_at, labels_in_elements}
+use Rattle.pas_rules.specs.Expressions.{ordinal_only, value_of}
+use Rattle.pas_rules.specs.Statements.{constants_of, constants_in, statement_of, arms_of, others_of, with_arm, plain_of}
+use Rattle.pas_rules.specs.Statements.{values_known, base_of_value}
+use Rattle.pas_scopes.specs.ScopeViews.{scopes_view, IsClear}
+use Rattle.pas_scopes.specs.Stopping.{stop_before}
+use Rattle.pas_scopes.specs.Answers.{IsQuiet, Means, FailsBy, ShowsBy, Settles}
 use Rattle.pas_types.specs.inner.FlowViews.{IsFlow, Goes, ShowsBefore}
 use Rattle.pas_types.specs.inner.CaseViews.{arm_part, arm_words, IsArm, behind_elements}
-use Rattle.pas_types.proofs.AsMany.{AsMany, all, and_then, next_word, before_word, first_count}
-use Rattle.pas_types.proofs.AsMany.{around as between_words}
-use Rattle.pas_types.proofs.EndLemmas.{first_nothing}
-use Rattle.pas_types.proofs.StatementsAsMany.{statement_many, constants_many, elements_many, others_many}
-use Rattle.pas_types.proofs.SettleLemmas.{quiet_alone, shows_alone, quiet_behind, shows_by_behind}
-use Rattle.pas_types.proofs.SettleLemmas.{nothing_shown}
+use Rattle.pas_rules.proofs.AsMany.{AsMany, all, and_then, next_word, before_word, first_count}
+use Rattle.pas_rules.proofs.AsMany.{around as between_words}
+use Rattle.pas_scopes.proofs.EndLemmas.{first_nothing}
+use Rattle.pas_rules.proofs.StatementsAsMany.{statement_many, constants_many, elements_many, others_many}
+use Rattle.pas_scopes.proofs.SettleLemmas.{quiet_alone, shows_alone, quiet_behind, shows_by_behind}
+use Rattle.pas_scopes.proofs.SettleLemmas.{nothing_shown}
 use Rattle.pas_types.proofs.ChainLemmas.{made_of_both, made_of_three, before_shows, behind_shows, behind_quiet}
 use Rattle.pas_types.proofs.ChainLemmas.{fault_front, word_shows, word_quiet, guard_shows, guarded_shows, guarded_quiet}
-use Rattle.pas_types.proofs.LabelSeen.{taken_more, turned_push, map_push}
+use Rattle.pas_scopes.proofs.LabelSeen.{taken_more, turned_push, map_push}
 use Rattle.pas_types.proofs.FlowLemmas.{regroup}
 use Rattle.pas_types.proofs.ResultLemmas.{arm_seen, around_item}
 use Rattle.pas_types.proofs.CaseLemmas.{split_both}

@@ -4,15 +4,15 @@ use Rattle.std.proofs.Common.{Option, Some, None, Result, Ok, Err}
 use Rattle.std.specs.Prelude.{IfOk, OnOk}
 use Rattle.pas_tokens.specs.Cutting.{Wrong}
 use Rattle.pas_syntax.specs.Words.{Word}
-use Rattle.pas_types.specs.declared.stop.Stop.{Stop}
-use Rattle.pas_types.specs.declared.stop.Stop.TheVariants as stop
-use Rattle.pas_types.specs.Marks.{Marks, quiet, followed, Judged, known, both, known_of}
-use Rattle.pas_types.specs.inner.Stopping.{found_before}
-use Rattle.pas_types.specs.inner.Answers.{Ending, noted_end, settled_at, settled_by, IsQuiet, ShowsBy}
-use Rattle.pas_types.specs.inner.Answers.{Settles}
+use Rattle.pas_scopes.specs.declared.stop.Stop.{Stop}
+use Rattle.pas_scopes.specs.declared.stop.Stop.TheVariants as stop
+use Rattle.pas_rules.specs.Marks.{Marks, quiet, followed, Judged, known, both, known_of}
+use Rattle.pas_scopes.specs.Stopping.{found_before}
+use Rattle.pas_scopes.specs.Answers.{Ending, noted_end, settled_at, settled_by, IsQuiet, ShowsBy}
+use Rattle.pas_scopes.specs.Answers.{Settles}
 use Rattle.pas_types.specs.inner.FlowViews.{ShowsBefore, Precedes}
-use Rattle.pas_types.proofs.AsMany.{AsMany}
-use Rattle.pas_types.proofs.SettleLemmas.{quiet_behind, shows_by_behind, shows_before, shows_front, quiet_word}
+use Rattle.pas_rules.proofs.AsMany.{AsMany}
+use Rattle.pas_scopes.proofs.SettleLemmas.{quiet_behind, shows_by_behind, shows_before, shows_front, quiet_word}
 
 -- what is made of known parts
 pub made_of : {A B : Type 0} (make : A → B) (one : Option A) (value : A) → one ≡ Some value

@@ -7,22 +7,23 @@ use Rattle.pas_syntax.specs.Tree.{Rows, VariableRow}
 use Rattle.pas_typed.specs.Types.{PasType, Table}
 use Rattle.pas_typed.specs.Typed.{Mode, Variable, local, declared}
 use Rattle.pas_typed.specs.TypedViews.{variable_view}
-use Rattle.pas_types.specs.declared.scopes.Inner.{Inner as CodeInner}
-use Rattle.pas_types.specs.declared.scopes.KnownRoutine.{KnownRoutine as CodeRoutine}
-use Rattle.pas_types.specs.declared.scopes.Scopes.{Scopes as CodeScopes}
-use Rattle.pas_types.specs.Marks.{Judged, known}
-use Rattle.pas_types.specs.Scopes.{Entity, unclear, Named, KnownRoutine, Outer, Inner, entity_in, or_else, names_inside}
-use Rattle.pas_types.specs.Scopes.{required, spellings_of}
+use Rattle.pas_scopes.specs.declared.scopes.Inner.{Inner as CodeInner}
+use Rattle.pas_scopes.specs.declared.scopes.KnownRoutine.{KnownRoutine as CodeRoutine}
+use Rattle.pas_scopes.specs.declared.scopes.Scopes.{Scopes as CodeScopes}
+use Rattle.pas_rules.specs.Marks.{Judged, known}
+use Rattle.pas_rules.specs.Scopes.{Entity, unclear, Named, KnownRoutine, Outer, Inner, entity_in, or_else, names_inside}
+use Rattle.pas_rules.specs.Scopes.{required, spellings_of}
 use Rattle.pas_typed.specs.Types.{Made}
-use Rattle.pas_types.specs.TypeForms.{form_of}
-use Rattle.pas_types.specs.Declarations.{named_slots, with_locals, routine_scopes, InnerStage, local_row, more_local_rows}
-use Rattle.pas_types.specs.Declarations.{local_rows}
-use Rattle.pas_types.specs.Routines.{with_body, parameters_known, inner_of}
-use Rattle.pas_types.specs.ScopeViews.{outer_view, inner_view, routine_view, scopes_view, IsClear}
-use Rattle.pas_types.specs.inner.Locals.{IsWaiting, AreWaiting, IsWithin}
+use Rattle.pas_rules.specs.TypeForms.{form_of}
+use Rattle.pas_rules.specs.Declarations.{named_slots, with_locals, routine_scopes, InnerStage, local_row}
+use Rattle.pas_rules.specs.Declarations.{more_local_rows}
+use Rattle.pas_rules.specs.Declarations.{local_rows}
+use Rattle.pas_rules.specs.Routines.{with_body, parameters_known, inner_of}
+use Rattle.pas_scopes.specs.ScopeViews.{outer_view, inner_view, routine_view, scopes_view, IsClear}
+use Rattle.pas_scopes.specs.Locals.{IsWaiting, AreWaiting, IsWithin}
 use Rattle.pas_types.specs.inner.RoutineAnswers.{awaited_at, IsReady}
 use Rattle.pas_types.specs.inner.BlockAnswers.{without_awaited}
-use Rattle.pas_types.proofs.LocalRowLemmas.{clear_each, local_known}
+use Rattle.pas_scopes.proofs.LocalRowLemmas.{clear_each, local_known}
 use Rattle.pas_types.proofs.RoutineLemmas.{waiting_at}
 
 -- the routine at a number waits no longer, if there is one

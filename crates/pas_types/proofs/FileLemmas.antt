@@ -24,27 +24,27 @@ use Rattle.pas_typed.specs.TypedViews.{slot_view, place_view}
 use Rattle.pas_typed.proofs.ValueViews.{place_view-roll}
 use Rattle.pas_typed.specs.Typed as typed
 use Rattle.pas_typed.specs.Typed.{Value, Place, Passed, Slot, Heading, Variable}
-use Rattle.pas_types.specs.declared.stop.Stop.{Stop}
-use Rattle.pas_types.specs.declared.stop.Stop.TheVariants as stop
-use Rattle.pas_types.specs.Marks.{Marks, quiet, Judged, both, known, checked, unless, last_of, first_fault}
-use Rattle.pas_types.specs.Scopes.{Scopes, Entity, constant, type, variable, routine, function, file_test, file_step}
-use Rattle.pas_types.specs.Scopes.{procedure, unclear, entity_of, standard_file}
-use Rattle.pas_types.specs.TypeForms as forms
-use Rattle.pas_types.specs.TypeForms.{ConstantValue}
-use Rattle.pas_types.specs.Expressions.{Demand, Given, as_value, as_call}
-use Rattle.pas_types.specs.Expressions.{value_of, place_of, elements_at, element_by, indexed_by}
-use Rattle.pas_types.specs.Expressions.{as_array, field_by, field_in, field_at, buffer_at, buffer_of, heading_of}
-use Rattle.pas_types.specs.Expressions.{function_alone, without_arguments, test_alone, function_call_of, call_with}
-use Rattle.pas_types.specs.Expressions.{any_of_base, first_value, file_in, file_at}
-use Rattle.pas_types.specs.Expressions.{is_file, given, passed_to, demands_of, test_demand}
-use Rattle.pas_types.specs.Expressions.{function_demand, record_only, files_only, field_of, bare_argument, values_of}
-use Rattle.pas_types.specs.Expressions.{variable_value, factor_of, term_of, sum_of}
-use Rattle.pas_types.specs.Calls.{whole_file, items_alone, missing_items}
-use Rattle.pas_types.specs.inner.Ends.{Stops}
-use Rattle.pas_types.specs.inner.Stopping.{demanded}
-use Rattle.pas_types.specs.inner.Answers.{Ending, noted_end, stands_by, EndsAs, StandsAs, FailsBy, StopsBy}
+use Rattle.pas_scopes.specs.declared.stop.Stop.{Stop}
+use Rattle.pas_scopes.specs.declared.stop.Stop.TheVariants as stop
+use Rattle.pas_rules.specs.Marks.{Marks, quiet, Judged, both, known, checked, unless, last_of, first_fault}
+use Rattle.pas_rules.specs.Scopes.{Scopes, Entity, constant, type, variable, routine, function, file_test, file_step}
+use Rattle.pas_rules.specs.Scopes.{procedure, unclear, entity_of, standard_file}
+use Rattle.pas_rules.specs.TypeForms as forms
+use Rattle.pas_rules.specs.TypeForms.{ConstantValue}
+use Rattle.pas_rules.specs.Expressions.{Demand, Given, as_value, as_call}
+use Rattle.pas_rules.specs.Expressions.{value_of, place_of, elements_at, element_by, indexed_by}
+use Rattle.pas_rules.specs.Expressions.{as_array, field_by, field_in, field_at, buffer_at, buffer_of, heading_of}
+use Rattle.pas_rules.specs.Expressions.{function_alone, without_arguments, test_alone, function_call_of, call_with}
+use Rattle.pas_rules.specs.Expressions.{any_of_base, first_value, file_in, file_at}
+use Rattle.pas_rules.specs.Expressions.{is_file, given, passed_to, demands_of, test_demand}
+use Rattle.pas_rules.specs.Expressions.{function_demand, record_only, files_only, field_of, bare_argument, values_of}
+use Rattle.pas_rules.specs.Expressions.{variable_value, factor_of, term_of, sum_of}
+use Rattle.pas_rules.specs.Calls.{whole_file, items_alone, missing_items}
+use Rattle.pas_scopes.specs.Ends.{Stops}
+use Rattle.pas_scopes.specs.Stopping.{demanded}
+use Rattle.pas_scopes.specs.Answers.{Ending, noted_end, stands_by, EndsAs, StandsAs, FailsBy, StopsBy}
 use Rattle.pas_types.specs.inner.Transfers.{refused_by, behind_actuals}
-use Rattle.pas_types.proofs.AnswerLemmas.{checked_fails, checked_stands}
+use Rattle.pas_scopes.proofs.AnswerLemmas.{checked_fails, checked_stands}
 
 -- a place that has parts
 abbrev pub is_slot : Place → Bool

@@ -12,29 +12,30 @@ use Rattle.pas_typed.specs.Typed.{Variable, Heading, local}
 use Rattle.pas_typed.specs.TypeViews.{type_view}
 use Rattle.pas_typed.specs.TypedViews.{variable_view}
 use Rattle.pas_types.specs.declared.headings.HeadingParts.{HeadingParts as CodeParts}
-use Rattle.pas_types.specs.declared.scopes.Inner.{Inner as CodeInner}
-use Rattle.pas_types.specs.declared.scopes.KnownRoutine.{KnownRoutine as CodeRoutine}
-use Rattle.pas_types.specs.declared.scopes.Scopes.{Scopes as CodeScopes}
-use Rattle.pas_types.specs.declared.stop.Stop.{Stop}
-use Rattle.pas_types.specs.Marks.{Marks, quiet, shows, joined, Judged}
-use Rattle.pas_types.specs.Scopes.{routine, Named, names, names_of, contains, KnownRoutine, Outer, Inner}
-use Rattle.pas_types.specs.Scopes.{entity_in, names_inside, or_else, required}
-use Rattle.pas_types.specs.Declarations.{named_slots, program_scopes}
-use Rattle.pas_types.specs.Routines.{HeadingParts, Formal, HeadingStage, formals_of, result_part, missing_result}
-use Rattle.pas_types.specs.Routines.{new_inner, heading_by, with_routine, first_heading}
-use Rattle.pas_types.specs.NameViews.{with_new}
-use Rattle.pas_types.specs.ScopeViews.{outer_view, inner_view, routine_view, made_view, IsClear}
-use Rattle.pas_types.specs.inner.Answers.{FailsBy, IsQuiet}
-use Rattle.pas_types.specs.inner.Declared.{IsCounted}
-use Rattle.pas_types.specs.inner.Locals.{IsMeasured, IsWaiting, AreWaiting, IsWithin}
-use Rattle.pas_types.specs.inner.RoutineAnswers.{parts_in, rest_words, parts_words, result_told, name_faults}
+use Rattle.pas_scopes.specs.declared.scopes.Inner.{Inner as CodeInner}
+use Rattle.pas_scopes.specs.declared.scopes.KnownRoutine.{KnownRoutine as CodeRoutine}
+use Rattle.pas_scopes.specs.declared.scopes.Scopes.{Scopes as CodeScopes}
+use Rattle.pas_scopes.specs.declared.stop.Stop.{Stop}
+use Rattle.pas_rules.specs.Marks.{Marks, quiet, shows, joined, Judged}
+use Rattle.pas_rules.specs.Scopes.{routine, Named, names, names_of, contains, KnownRoutine, Outer, Inner}
+use Rattle.pas_rules.specs.Scopes.{entity_in, names_inside, or_else, required}
+use Rattle.pas_rules.specs.Declarations.{named_slots, program_scopes}
+use Rattle.pas_rules.specs.Routines.{HeadingParts, Formal, HeadingStage, formals_of, result_part, missing_result}
+use Rattle.pas_rules.specs.Routines.{new_inner, heading_by, with_routine, first_heading}
+use Rattle.pas_rules.specs.Scopes.{with_new}
+use Rattle.pas_scopes.specs.ScopeViews.{outer_view, inner_view, routine_view, made_view, IsClear}
+use Rattle.pas_scopes.specs.Answers.{FailsBy, IsQuiet}
+use Rattle.pas_scopes.specs.DeclaredSoFar.{IsCounted}
+use Rattle.pas_scopes.specs.Locals.{IsMeasured, IsWaiting, AreWaiting, IsWithin}
+use Rattle.pas_types.specs.inner.RoutineAnswers.{parts_in, result_told, name_faults}
+use Rattle.pas_rules.specs.HeadingWords.{rest_words, parts_words}
 use Rattle.pas_types.specs.inner.RoutineAnswers.{PassesRest}
 use Rattle.pas_types.specs.inner.RoutineAnswers.{PassesHeading, AddsRoutine, IsReady, awaited_at, Heads, sort_view}
-use Rattle.pas_types.proofs.RoutinesAsMany.{rest_many}
-use Rattle.pas_types.proofs.SettleLemmas.{quiet_word, quiet_behind}
-use Rattle.pas_types.proofs.ConstantRowLemmas.{clear_push, free_in, view_is}
-use Rattle.pas_types.proofs.CountedLemmas.{counted_name}
-use Rattle.pas_types.proofs.LocalRowLemmas.{fails_front, fails_behind}
+use Rattle.pas_rules.proofs.RoutinesAsMany.{rest_many}
+use Rattle.pas_scopes.proofs.SettleLemmas.{quiet_word, quiet_behind}
+use Rattle.pas_scopes.proofs.ConstantRowLemmas.{clear_push, free_in, view_is}
+use Rattle.pas_scopes.proofs.CountedLemmas.{counted_name}
+use Rattle.pas_scopes.proofs.LocalRowLemmas.{fails_front, fails_behind}
 use Rattle.pas_types.proofs.HeadingLemmas.{some_seen}
 use Rattle.pas_types.proofs.RoutineLemmas.{Keeps, formals_keep, heading_told, waiting_push, last_awaited}
 

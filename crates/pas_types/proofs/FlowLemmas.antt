@@ -11,13 +11,13 @@ use Rattle.pas_syntax.specs.Words.{Word}
 use Rattle.pas_typed.specs.Typed as typed
 use Rattle.pas_typed.specs.Types.{PasType}
 use Rattle.pas_types.specs.declared.flow.Flow.{Flow}
-use Rattle.pas_types.specs.Marks.{Judged, refuses}
-use Rattle.pas_types.specs.Scopes.{Outer, Inner, Scopes}
-use Rattle.pas_types.specs.Labels.{block_labels, labels_of_block, goto_of}
-use Rattle.pas_types.specs.Expressions.{heading_of}
-use Rattle.pas_types.specs.Statements.{target_result, target_routine}
-use Rattle.pas_types.specs.inner.Ends.{AreQuiet}
-use Rattle.pas_types.specs.inner.Answers.{Means}
+use Rattle.pas_rules.specs.Marks.{Judged, refuses}
+use Rattle.pas_rules.specs.Scopes.{Outer, Inner, Scopes}
+use Rattle.pas_rules.specs.Labels.{block_labels, labels_of_block, goto_of}
+use Rattle.pas_rules.specs.Expressions.{heading_of}
+use Rattle.pas_rules.specs.Statements.{target_result, target_routine}
+use Rattle.pas_scopes.specs.Ends.{AreQuiet}
+use Rattle.pas_scopes.specs.Answers.{Means}
 use Rattle.pas_types.specs.inner.LabelViews.{Known, known_labels, goto_by, entered, left, stood}
 use Rattle.pas_types.specs.inner.FlowViews.{IsBeside, IsFlow}
 use Rattle.pas_types.proofs.LabelRules.{main_goto, routine_goto, entered_known, left_known, stood_known}

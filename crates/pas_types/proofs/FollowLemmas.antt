@@ -10,17 +10,17 @@ use Rattle.pas_typed.specs.Types as types
 use Rattle.pas_typed.specs.Types.{PasType, Structure, TableRow, Table, component_in, has_component, is_lawful_file}
 use Rattle.pas_typed.specs.Types.{range_in, is_byte_range, structure_of, row_of}
 use Rattle.pas_typed.specs.Shapes.{IsAmong}
-use Rattle.pas_types.specs.Marks.{unless}
-use Rattle.pas_types.specs.Scopes.{Entity, constant, type, variable, routine, function, file_test, file_step, procedure}
-use Rattle.pas_types.specs.Scopes.{unclear, Named, names, Outer, entity_in, or_else, contains, names_of}
-use Rattle.pas_types.specs.Check.{parameter_faults}
-use Rattle.pas_types.specs.NameViews.{with_new}
-use Rattle.pas_types.specs.declared.scopes.Scopes.{Scopes as CodeScopes}
-use Rattle.pas_types.specs.ScopeViews.{outer_view}
-use Rattle.pas_types.specs.inner.Declared.{IsHeld, AreHeld, IsFiled, AreFiled}
+use Rattle.pas_rules.specs.Marks.{unless}
+use Rattle.pas_rules.specs.Scopes.{Entity, constant, type, variable, routine, function, file_test, file_step, procedure}
+use Rattle.pas_rules.specs.Scopes.{unclear, Named, names, Outer, entity_in, or_else, contains, names_of}
+use Rattle.pas_rules.specs.Check.{parameter_faults}
+use Rattle.pas_rules.specs.Scopes.{with_new}
+use Rattle.pas_scopes.specs.declared.scopes.Scopes.{Scopes as CodeScopes}
+use Rattle.pas_scopes.specs.ScopeViews.{outer_view}
+use Rattle.pas_scopes.specs.DeclaredSoFar.{IsHeld, AreHeld, IsFiled, AreFiled}
 use Rattle.pas_types.specs.inner.RoutineAnswers.{ServesAs}
 use Rattle.pas_types.specs.inner.RoutineStands.{masked, served, IsHeldIf, IsNoted, names_by}
-use Rattle.pas_types.proofs.DeclaredLemmas.{entity_push}
+use Rattle.pas_scopes.proofs.DeclaredLemmas.{entity_push}
 
 pub masked_faults : (table : Table) (found : Option Entity)
     → parameter_faults table (option_map masked found) ≡ parameter_faults table found

@@ -5,22 +5,23 @@ use Rattle.pas_syntax.specs.Tree as tree
 use Rattle.pas_syntax.specs.Tree.{Labels, Rows, VariableRow, Compound, Routine}
 use Rattle.pas_typed.specs.Types.{PasType, Table, Made}
 use Rattle.pas_typed.specs.Typed.{Mode, Variable, Heading, declared, local}
-use Rattle.pas_types.specs.Marks.{Judged, known}
-use Rattle.pas_types.specs.Scopes.{Entity, constant, type, variable, routine, function, file_test, file_step, procedure}
-use Rattle.pas_types.specs.Scopes.{unclear, Named, names, Outer, Inner, entity_in, spellings_of, or_else, contains}
-use Rattle.pas_types.specs.TypeForms.{form_of}
-use Rattle.pas_types.specs.Declarations.{types_behind, named_slots, unclear_names, with_locals, routine_scopes}
-use Rattle.pas_types.specs.Declarations.{variables_of, InnerStage, local_row, more_local_rows, local_rows, declared_labels}
-use Rattle.pas_types.specs.Routines.{Sort, HeadingParts, HeadingStage, head_of, with_routine, awaited, awaited_by}
-use Rattle.pas_types.specs.Routines.{headed_by, headed, with_body, parameters_known, inner_of, routine_by, routine_of}
-use Rattle.pas_types.specs.inner.Declared.{AreThere, AreFiled, IsCounted}
-use Rattle.pas_types.proofs.CountedLemmas.{Longer, longer_same, longer_on, longer_length, IsMade, form_made}
-use Rattle.pas_types.proofs.CountedLemmas.{named_routine, there_append, all_there_more, counted_name, counted_longer}
-use Rattle.pas_types.proofs.LocalRowLemmas.{local_there}
+use Rattle.pas_rules.specs.Marks.{Judged, known}
+use Rattle.pas_rules.specs.Scopes.{Entity, constant, type, variable, routine, function, file_test, file_step, procedure}
+use Rattle.pas_rules.specs.Scopes.{unclear, Named, names, Outer, Inner, entity_in, spellings_of, or_else, contains}
+use Rattle.pas_rules.specs.TypeForms.{form_of}
+use Rattle.pas_rules.specs.Declarations.{types_behind, named_slots, unclear_names, with_locals, routine_scopes}
+use Rattle.pas_rules.specs.Declarations.{variables_of, InnerStage, local_row, more_local_rows, local_rows}
+use Rattle.pas_rules.specs.Declarations.{declared_labels}
+use Rattle.pas_rules.specs.Routines.{Sort, HeadingParts, HeadingStage, head_of, with_routine, awaited, awaited_by}
+use Rattle.pas_rules.specs.Routines.{headed_by, headed, with_body, parameters_known, inner_of, routine_by, routine_of}
+use Rattle.pas_scopes.specs.DeclaredSoFar.{AreThere, AreFiled, IsCounted}
+use Rattle.pas_scopes.proofs.CountedLemmas.{Longer, longer_same, longer_on, longer_length, IsMade, form_made}
+use Rattle.pas_scopes.proofs.CountedLemmas.{named_routine, there_append, all_there_more, counted_name, counted_longer}
+use Rattle.pas_scopes.proofs.LocalRowLemmas.{local_there}
 use Rattle.std.proofs.lemmas.List.{append_assoc}
-use Rattle.pas_types.specs.declared.scopes.Scopes.{Scopes as CodeScopes}
-use Rattle.pas_types.specs.NameViews.{with_new}
-use Rattle.pas_types.specs.ScopeViews.{outer_view}
+use Rattle.pas_scopes.specs.declared.scopes.Scopes.{Scopes as CodeScopes}
+use Rattle.pas_rules.specs.Scopes.{with_new}
+use Rattle.pas_scopes.specs.ScopeViews.{outer_view}
 use Rattle.pas_types.specs.inner.RoutineAnswers.{IsReady}
 use Rattle.pas_types.specs.inner.RoutineStands.{masked, served, IsHeldIf, IsNoted, names_by}
 use Rattle.pas_types.proofs.FollowLemmas.{Behind, unclear_if, head_there, head_pushed, new_behind, held_new, held_in}

@@ -16,30 +16,30 @@ use Rattle.pas_typed.specs.Types.{PasType, Made}
 use Rattle.pas_typed.specs.Typed.{Mode}
 use Rattle.pas_typed.specs.TypeViews.{type_view}
 use Rattle.pas_typed.specs.TypedViews.{mode_view}
-use Rattle.pas_types.specs.declared.judged.Judged.{Judged as CodeJudged}
-use Rattle.pas_types.specs.declared.scopes.Inner.{Inner as CodeInner}
-use Rattle.pas_types.specs.declared.scopes.Scopes.{Scopes as CodeScopes}
-use Rattle.pas_types.specs.declared.stop.Stop.{Stop}
-use Rattle.pas_types.specs.Marks.{Marks, quiet, joined, Judged, noted, known}
-use Rattle.pas_types.specs.Scopes.{names_of, names_inside, spellings_of, new_names}
-use Rattle.pas_types.specs.TypeForms.{maybe_quiet, type_named}
-use Rattle.pas_types.specs.Declarations.{local_only, with_locals}
-use Rattle.pas_types.specs.Routines.{mode_of, type_in_heading, Formal, parameter_of}
-use Rattle.pas_types.specs.ScopeViews.{outer_view, scopes_view, made_view, IsClear}
-use Rattle.pas_types.specs.inner.Answers.{end_in, EndsAs, StopsBy, FailsBy, IsQuiet}
-use Rattle.pas_types.specs.inner.NameAnswers.{AreNewNames, AreNew}
-use Rattle.pas_types.specs.inner.Locals.{IsWithin}
+use Rattle.pas_scopes.specs.declared.judged.Judged.{Judged as CodeJudged}
+use Rattle.pas_scopes.specs.declared.scopes.Inner.{Inner as CodeInner}
+use Rattle.pas_scopes.specs.declared.scopes.Scopes.{Scopes as CodeScopes}
+use Rattle.pas_scopes.specs.declared.stop.Stop.{Stop}
+use Rattle.pas_rules.specs.Marks.{Marks, quiet, joined, Judged, noted, known}
+use Rattle.pas_rules.specs.Scopes.{names_of, names_inside, spellings_of, new_names}
+use Rattle.pas_rules.specs.TypeForms.{maybe_quiet, type_named}
+use Rattle.pas_rules.specs.Declarations.{local_only, with_locals}
+use Rattle.pas_rules.specs.Routines.{mode_of, type_in_heading, Formal, parameter_of}
+use Rattle.pas_scopes.specs.ScopeViews.{outer_view, scopes_view, made_view, IsClear}
+use Rattle.pas_scopes.specs.Answers.{end_in, EndsAs, StopsBy, FailsBy, IsQuiet}
+use Rattle.pas_scopes.specs.NameAnswers.{AreNewNames, AreNew}
+use Rattle.pas_scopes.specs.Locals.{IsWithin}
 use Rattle.pas_types.specs.inner.RoutineAnswers.{PassesFormals}
-use Rattle.pas_types.proofs.AsMany.{AsMany, next_word, all, noted_many}
-use Rattle.pas_types.proofs.TypesAsMany.{type_named_many}
-use Rattle.pas_types.proofs.AnswerLemmas.{made_ends, made_stops, noted_stops_by, stops_fails}
-use Rattle.pas_types.proofs.SettleLemmas.{quiet_word, quiet_alone, quiet_behind, nothing_shown}
-use Rattle.pas_types.proofs.CountedLemmas.{IsMade}
-use Rattle.pas_types.proofs.GlobalRowLemmas.{names_alone, fresh_alone}
-use Rattle.pas_types.proofs.LocalRowLemmas.{fails_front, fails_behind}
-use Rattle.pas_types.proofs.LocalRowsLemmas.{fails_alone}
-use Rattle.pas_types.proofs.WithinLemmas.{AddAnswers, Added, seen_inner, seen_scopes, seen_is, taken_is}
-use Rattle.pas_types.proofs.WithinLemmas.{made_in, added_fails, added_quiet, added_leaves}
+use Rattle.pas_rules.proofs.AsMany.{AsMany, next_word, all, noted_many}
+use Rattle.pas_rules.proofs.TypesAsMany.{type_named_many}
+use Rattle.pas_scopes.proofs.AnswerLemmas.{made_ends, made_stops, noted_stops_by, stops_fails}
+use Rattle.pas_scopes.proofs.SettleLemmas.{quiet_word, quiet_alone, quiet_behind, nothing_shown}
+use Rattle.pas_scopes.proofs.CountedLemmas.{IsMade}
+use Rattle.pas_scopes.proofs.GlobalRowLemmas.{names_alone, fresh_alone}
+use Rattle.pas_scopes.proofs.LocalRowLemmas.{fails_front, fails_behind}
+use Rattle.pas_scopes.proofs.LocalRowsLemmas.{fails_alone}
+use Rattle.pas_scopes.proofs.WithinLemmas.{AddAnswers, Added, seen_inner, seen_scopes, seen_is, taken_is}
+use Rattle.pas_scopes.proofs.WithinLemmas.{made_in, added_fails, added_quiet, added_leaves}
 
 -- a word that may stand there shows nothing
 maybe_still : (n : ℕ) (line : Option ℕ) → IsQuiet (maybe n k.Var line) (maybe_quiet line) false

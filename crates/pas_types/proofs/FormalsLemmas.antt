@@ -6,21 +6,21 @@ use Rattle.std.specs.Prelude.{flat_map, ◌&&◌}
 use Rattle.pas_tokens.specs.declared.kinds.Kind.TheVariants as k
 use Rattle.pas_syntax.specs.Tree.{Behind, Parameter, Parameters}
 use Rattle.pas_syntax.specs.Words.{Word, at, parameter_words, parameters_words}
-use Rattle.pas_types.specs.declared.scopes.Inner.{Inner as CodeInner}
-use Rattle.pas_types.specs.declared.scopes.Scopes.{Scopes as CodeScopes}
-use Rattle.pas_types.specs.declared.stop.Stop.{Stop}
-use Rattle.pas_types.specs.Marks.{Marks, no_token, quiet, joined}
-use Rattle.pas_types.specs.Scopes.{Outer, Inner}
-use Rattle.pas_types.specs.Routines.{Formal, parameter_of, formal_behind, more_formals, no_formals, formals_of}
-use Rattle.pas_types.specs.ScopeViews.{outer_view, inner_view}
-use Rattle.pas_types.specs.inner.Answers.{FailsBy, IsQuiet}
-use Rattle.pas_types.specs.inner.Locals.{IsWithin}
+use Rattle.pas_scopes.specs.declared.scopes.Inner.{Inner as CodeInner}
+use Rattle.pas_scopes.specs.declared.scopes.Scopes.{Scopes as CodeScopes}
+use Rattle.pas_scopes.specs.declared.stop.Stop.{Stop}
+use Rattle.pas_rules.specs.Marks.{Marks, no_token, quiet, joined}
+use Rattle.pas_rules.specs.Scopes.{Outer, Inner}
+use Rattle.pas_rules.specs.Routines.{Formal, parameter_of, formal_behind, more_formals, no_formals, formals_of}
+use Rattle.pas_scopes.specs.ScopeViews.{outer_view, inner_view}
+use Rattle.pas_scopes.specs.Answers.{FailsBy, IsQuiet}
+use Rattle.pas_scopes.specs.Locals.{IsWithin}
 use Rattle.pas_types.specs.inner.RoutineAnswers.{PassesFormals}
-use Rattle.pas_types.proofs.AsMany.{next_word, all}
-use Rattle.pas_types.proofs.RoutinesAsMany.{parameter_many}
-use Rattle.pas_types.proofs.SettleLemmas.{quiet_word, quiet_alone, quiet_behind, nothing_shown}
-use Rattle.pas_types.proofs.LocalRowLemmas.{fails_front, fails_behind}
-use Rattle.pas_types.proofs.LocalRowsLemmas.{fails_alone}
+use Rattle.pas_rules.proofs.AsMany.{next_word, all}
+use Rattle.pas_rules.proofs.RoutinesAsMany.{parameter_many}
+use Rattle.pas_scopes.proofs.SettleLemmas.{quiet_word, quiet_alone, quiet_behind, nothing_shown}
+use Rattle.pas_scopes.proofs.LocalRowLemmas.{fails_front, fails_behind}
+use Rattle.pas_scopes.proofs.LocalRowsLemmas.{fails_alone}
 
 -- the words of parameters behind others
 abbrev pub one_words : Behind Parameter → List Word

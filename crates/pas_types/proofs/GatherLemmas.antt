@@ -10,23 +10,23 @@ use Rattle.pas_tokens.specs.declared.kinds.Kind.TheVariants as k
 use Rattle.pas_syntax.specs.declared.tree.Argument.{Argument as CodeArgument}
 use Rattle.pas_syntax.specs.declared.tree.Behind.{Behind as CodeBehind}
 use Rattle.pas_syntax.specs.Words.{Word, at}
-use Rattle.pas_types.specs.declared.stop.Stop.{Stop}
-use Rattle.pas_types.specs.declared.stop.Stop.TheVariants as stop
-use Rattle.pas_types.specs.declared.judged.Judged.{Judged as CodeJudged}
-use Rattle.pas_types.specs.Marks.{Marks, no_token, shows, lowest, first_fault, Judged}
-use Rattle.pas_types.specs.Scopes.{Scopes}
-use Rattle.pas_types.specs.Calls.{Actual}
-use Rattle.pas_types.specs.inner.Ends.{shown_behind}
-use Rattle.pas_types.specs.inner.Stopping.{shown_in, found_before}
-use Rattle.pas_types.specs.inner.Answers.{end_in, settled_by, StandsAs, FailsBy, Shows, IsQuiet, Ending}
-use Rattle.pas_types.specs.inner.Listed.{Item, item_words, items_marks, closed_marks, item_at, item_behind}
-use Rattle.pas_types.specs.inner.Listed.{items_behind, line_behind, Gathered, FailsWithin, Gathers}
-use Rattle.pas_types.proofs.AsMany.{AsMany, none, and_then, next_word}
-use Rattle.pas_types.proofs.EndLemmas.{behind_quiet, quiet_many}
-use Rattle.pas_types.proofs.SettleLemmas.{shows_front}
-use Rattle.pas_types.proofs.ArgumentLemmas.{stands_quiet}
-use Rattle.pas_types.proofs.CallAnswers.{settled_is, unsettled_is}
-use Rattle.pas_types.proofs.ListedLemmas.{AreMany, item_fails, item_short, item_quiet, values_push}
+use Rattle.pas_scopes.specs.declared.stop.Stop.{Stop}
+use Rattle.pas_scopes.specs.declared.stop.Stop.TheVariants as stop
+use Rattle.pas_scopes.specs.declared.judged.Judged.{Judged as CodeJudged}
+use Rattle.pas_rules.specs.Marks.{Marks, no_token, shows, lowest, first_fault, Judged}
+use Rattle.pas_rules.specs.Scopes.{Scopes}
+use Rattle.pas_rules.specs.Calls.{Actual}
+use Rattle.pas_scopes.specs.Ends.{shown_behind}
+use Rattle.pas_scopes.specs.Stopping.{shown_in, found_before}
+use Rattle.pas_scopes.specs.Answers.{end_in, settled_by, StandsAs, FailsBy, Shows, IsQuiet, Ending}
+use Rattle.pas_scopes.specs.inner.Listed.{Item, item_words, items_marks, closed_marks, item_at, item_behind}
+use Rattle.pas_scopes.specs.inner.Listed.{items_behind, line_behind, Gathered, FailsWithin, Gathers}
+use Rattle.pas_rules.proofs.AsMany.{AsMany, none, and_then, next_word}
+use Rattle.pas_scopes.proofs.EndLemmas.{behind_quiet, quiet_many}
+use Rattle.pas_scopes.proofs.SettleLemmas.{shows_front}
+use Rattle.pas_scopes.proofs.ArgumentLemmas.{stands_quiet}
+use Rattle.pas_scopes.proofs.CallAnswers.{settled_is, unsettled_is}
+use Rattle.pas_scopes.proofs.ListedLemmas.{AreMany, item_fails, item_short, item_quiet, values_push}
 
 -- the word that closes the whole
 module _ (words : List Word) (part : Marks) (closed : Word) (faults : List Wrong) where

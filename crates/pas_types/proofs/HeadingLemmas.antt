@@ -9,25 +9,25 @@ use Rattle.pas_syntax.specs.Tree.{Behind, TypeName, Parameters}
 use Rattle.pas_syntax.specs.Words.{Word, at, words_if, parameters_words, result_words}
 use Rattle.pas_typed.specs.declared.types.PasType.{PasType as CodePasType}
 use Rattle.pas_typed.specs.Types.{Made}
-use Rattle.pas_types.specs.declared.stop.Stop.{Stop}
-use Rattle.pas_types.specs.declared.stop.Stop.TheVariants as stop
-use Rattle.pas_types.specs.Marks.{Marks, quiet, shows, joined, unless, Judged, judged, checked}
-use Rattle.pas_types.specs.inner.Ends.{shown_behind}
-use Rattle.pas_types.specs.inner.Answers.{Ending, EndsAs, FailsBy, IsQuiet, Means, Settles}
-use Rattle.pas_types.specs.declared.scopes.Inner.{Inner as CodeInner}
-use Rattle.pas_types.specs.declared.scopes.Scopes.{Scopes as CodeScopes}
-use Rattle.pas_types.specs.Scopes.{Inner}
-use Rattle.pas_types.specs.Routines.{Sort, Formal, formals_of, result_part, missing_result}
-use Rattle.pas_types.specs.ScopeViews.{outer_view, inner_view, made_view}
-use Rattle.pas_types.specs.inner.Stopping.{demanded, shown_in}
-use Rattle.pas_types.specs.inner.Locals.{IsWithin}
+use Rattle.pas_scopes.specs.declared.stop.Stop.{Stop}
+use Rattle.pas_scopes.specs.declared.stop.Stop.TheVariants as stop
+use Rattle.pas_rules.specs.Marks.{Marks, quiet, shows, joined, unless, Judged, judged, checked}
+use Rattle.pas_scopes.specs.Ends.{shown_behind}
+use Rattle.pas_scopes.specs.Answers.{Ending, EndsAs, FailsBy, IsQuiet, Means, Settles}
+use Rattle.pas_scopes.specs.declared.scopes.Inner.{Inner as CodeInner}
+use Rattle.pas_scopes.specs.declared.scopes.Scopes.{Scopes as CodeScopes}
+use Rattle.pas_rules.specs.Scopes.{Inner}
+use Rattle.pas_rules.specs.Routines.{Sort, Formal, formals_of, result_part, missing_result}
+use Rattle.pas_scopes.specs.ScopeViews.{outer_view, inner_view, made_view}
+use Rattle.pas_scopes.specs.Stopping.{demanded, shown_in}
+use Rattle.pas_scopes.specs.Locals.{IsWithin}
 use Rattle.pas_types.specs.inner.RoutineAnswers.{IsOrdinal, IsResult, PassesFormals, PassesRest, PassesHeading}
-use Rattle.pas_types.proofs.AsMany.{AsMany, all, one, and_then}
-use Rattle.pas_types.proofs.RoutinesAsMany.{result_many}
-use Rattle.pas_types.proofs.AnswerLemmas.{checked_marks}
-use Rattle.pas_types.proofs.SettleLemmas.{quiet_word, quiet_alone, quiet_behind}
-use Rattle.pas_types.proofs.LocalRowLemmas.{fails_front, fails_behind, missing_nothing}
-use Rattle.pas_types.proofs.LocalRowsLemmas.{fails_alone}
+use Rattle.pas_rules.proofs.AsMany.{AsMany, all, one, and_then}
+use Rattle.pas_rules.proofs.RoutinesAsMany.{result_many}
+use Rattle.pas_scopes.proofs.AnswerLemmas.{checked_marks}
+use Rattle.pas_scopes.proofs.SettleLemmas.{quiet_word, quiet_alone, quiet_behind}
+use Rattle.pas_scopes.proofs.LocalRowLemmas.{fails_front, fails_behind, missing_nothing}
+use Rattle.pas_scopes.proofs.LocalRowsLemmas.{fails_alone}
 
 -- a name that is declared already is told before that there are too many routines
 pub name_fails : (word : Word) (is_new is_few : Bool) (why : Stop)

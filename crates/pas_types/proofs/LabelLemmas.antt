@@ -9,8 +9,8 @@ use Rattle.std.proofs.lemmas.Bool.{eqb-true, eq-eqb}
 use Rattle.indexmap.specs.IndexMap.{insert_entry, set_value_at}
 use Rattle.indexmap.proofs.MapLemmas.{insert_entry-first, Found-position}
 use Rattle.pas_types.specs.declared.labels.Label.{Label}
-use Rattle.pas_types.specs.Labels.{has_label}
-use Rattle.pas_types.specs.inner.Stopping.{demanded}
+use Rattle.pas_rules.specs.Labels.{has_label}
+use Rattle.pas_scopes.specs.Stopping.{demanded}
 use Rattle.pas_types.specs.inner.LabelViews.{Known, numbers_of, times, changed_at, put_label}
 use Rattle.pas_types.specs.inner.LabelViews.{entered, left}
 use Rattle.pas_types.specs.inner.LabelViews.{stood}

@@ -7,13 +7,13 @@ use Rattle.std.proofs.lemmas.Bool.{eqb-true}
 use Rattle.std.proofs.lemmas.Grind.{common_steps}
 use Rattle.wb_base.specs.declared.faults.TheConstants.{CONSTANT_OUT_OF_RANGE, WRONG_LABEL, WRONG_GOTO}
 use Rattle.pas_tokens.specs.Cutting.{wrong}
-use Rattle.pas_types.specs.declared.limits.TheConstants.{GREATEST_LABEL}
+use Rattle.pas_rules.specs.declared.limits.TheConstants.{GREATEST_LABEL}
 use Rattle.pas_types.specs.declared.labels.Label.{Label}
 use Rattle.pas_typed.specs.Typed as typed
-use Rattle.pas_types.specs.Marks.{unless, Judged, means, refuses}
-use Rattle.pas_types.specs.Scopes.{Outer, Inner, Scopes}
-use Rattle.pas_types.specs.Labels.{has_label, block_labels, Spot, is_in_list, label_faults, is_last, to_list, goto_of}
-use Rattle.pas_types.specs.Routines.{all_stand}
+use Rattle.pas_rules.specs.Marks.{unless, Judged, means, refuses}
+use Rattle.pas_rules.specs.Scopes.{Outer, Inner, Scopes}
+use Rattle.pas_rules.specs.Labels.{has_label, block_labels, Spot, is_in_list, label_faults, is_last, to_list, goto_of}
+use Rattle.pas_rules.specs.Routines.{all_stand}
 use Rattle.pas_types.specs.inner.LabelViews.{Known, numbers_of, times, label_at, known_labels, entered, left, stood}
 use Rattle.pas_types.specs.inner.LabelViews.{is_free, is_within, may_stand, is_around_in, all_stand_in, standing_faults}
 use Rattle.pas_types.specs.inner.LabelViews.{program_by, goto_by}

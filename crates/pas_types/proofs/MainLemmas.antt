@@ -11,27 +11,27 @@ use Rattle.pas_tokens.specs.Tokens.{fault_in}
 use Rattle.pas_tokens.specs.declared.kinds.Kind.TheVariants as k
 use Rattle.pas_syntax.specs.Tree.{Compound}
 use Rattle.pas_syntax.specs.Words.{Word, at, statements_words}
-use Rattle.pas_types.specs.declared.stop.Stop.{Stop}
-use Rattle.pas_types.specs.declared.stop.Stop.TheVariants as stop
-use Rattle.pas_types.specs.Marks.{Marks, quiet, shows, followed, joined, unless, lowest, first_fault, Judged}
-use Rattle.pas_types.specs.inner.Ends.{shown_behind}
-use Rattle.pas_types.specs.inner.Answers.{FailsBy, Shows, ShowsBy, IsQuiet, Means}
-use Rattle.pas_types.specs.inner.Stopping.{shown_in}
-use Rattle.pas_types.specs.declared.scopes.Inner.{Inner as CodeInner}
-use Rattle.pas_types.specs.declared.scopes.KnownRoutine.{KnownRoutine as CodeRoutine}
-use Rattle.pas_types.specs.Check.{have_bodies}
+use Rattle.pas_scopes.specs.declared.stop.Stop.{Stop}
+use Rattle.pas_scopes.specs.declared.stop.Stop.TheVariants as stop
+use Rattle.pas_rules.specs.Marks.{Marks, quiet, shows, followed, joined, unless, lowest, first_fault, Judged}
+use Rattle.pas_scopes.specs.Ends.{shown_behind}
+use Rattle.pas_scopes.specs.Answers.{FailsBy, Shows, ShowsBy, IsQuiet, Means}
+use Rattle.pas_scopes.specs.Stopping.{shown_in}
+use Rattle.pas_scopes.specs.declared.scopes.Inner.{Inner as CodeInner}
+use Rattle.pas_scopes.specs.declared.scopes.KnownRoutine.{KnownRoutine as CodeRoutine}
+use Rattle.pas_rules.specs.Check.{have_bodies}
 use Rattle.pas_types.specs.declared.flow.Flow.{Flow}
-use Rattle.pas_types.specs.declared.scopes.Scopes.{Scopes as CodeScopes}
-use Rattle.pas_types.specs.Labels.{labels_of_block, block_labels}
-use Rattle.pas_types.specs.Routines as routine_rule
-use Rattle.pas_types.specs.ScopeViews.{routine_view, inner_view, outer_view, scopes_view}
+use Rattle.pas_scopes.specs.declared.scopes.Scopes.{Scopes as CodeScopes}
+use Rattle.pas_rules.specs.Labels.{labels_of_block, block_labels}
+use Rattle.pas_rules.specs.Routines as routine_rule
+use Rattle.pas_scopes.specs.ScopeViews.{routine_view, inner_view, outer_view, scopes_view}
 use Rattle.pas_types.specs.inner.FlowViews.{IsFlow, IsBeside}
 use Rattle.pas_types.specs.inner.LabelViews.{Known, known_labels, all_stand_in}
 use Rattle.pas_types.proofs.LabelRules.{all_stand_known}
 use Rattle.pas_types.specs.inner.Checking.{main_words, main_part, lacking, stop_at, IsWhole}
-use Rattle.pas_types.proofs.AsMany.{AsMany, and_then}
-use Rattle.pas_types.proofs.EndLemmas.{behind_quiet, quiet_many}
-use Rattle.pas_types.proofs.SettleLemmas.{quiet_behind, quiet_word, shows_front, shows_behind}
+use Rattle.pas_rules.proofs.AsMany.{AsMany, and_then}
+use Rattle.pas_scopes.proofs.EndLemmas.{behind_quiet, quiet_many}
+use Rattle.pas_scopes.proofs.SettleLemmas.{quiet_behind, quiet_word, shows_front, shows_behind}
 
 abbrev pub end_faults : Bool → Bool → List Wrong
 end_faults has_bodies all_stand = unless has_bodies (wrong UNKNOWN_NAME) ++ unless all_stand (wrong WRONG_LABEL)

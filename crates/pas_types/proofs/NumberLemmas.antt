@@ -9,15 +9,16 @@ use Rattle.pas_syntax.specs.declared.tree.Behind.{Behind as CodeBehind}
 use Rattle.pas_syntax.specs.Views.{numeral_in, behind_in}
 use Rattle.pas_syntax.specs.Tree.{Numeral, Behind, Separated, Labels}
 use Rattle.pas_syntax.specs.Words.{Word, at, number_at, separated, words_if, labels_words}
-use Rattle.pas_types.specs.declared.stop.Stop.{Stop}
-use Rattle.pas_types.specs.declared.stop.Stop.TheVariants as stop
-use Rattle.pas_types.specs.Marks.{Marks, quiet, shows, joined, listed}
-use Rattle.pas_types.specs.Declarations.{new_label, each_label, label_marks}
-use Rattle.pas_types.specs.inner.Answers.{FailsBy, IsQuiet}
+use Rattle.pas_scopes.specs.declared.stop.Stop.{Stop}
+use Rattle.pas_scopes.specs.declared.stop.Stop.TheVariants as stop
+use Rattle.pas_rules.specs.Marks.{Marks, quiet, shows, joined, listed}
+use Rattle.pas_rules.specs.Declarations.{new_label, each_label, label_marks}
+use Rattle.pas_scopes.specs.Answers.{FailsBy, IsQuiet}
 use Rattle.pas_types.specs.inner.LabelViews.{Known, numbers_of, known_labels}
 use Rattle.pas_types.specs.inner.LabelAnswers.{fresh_label, IsNew, Numbers, Declares}
-use Rattle.pas_types.proofs.AsMany.{AsMany, one, next_word, behind_word}
-use Rattle.pas_types.proofs.SettleLemmas.{quiet_behind, quiet_word, quiet_alone, shows_front, shows_behind, shows_alone}
+use Rattle.pas_rules.proofs.AsMany.{AsMany, one, next_word, behind_word}
+use Rattle.pas_scopes.proofs.SettleLemmas.{quiet_behind, quiet_word, quiet_alone, shows_front, shows_behind}
+use Rattle.pas_scopes.proofs.SettleLemmas.{shows_alone}
 use Rattle.pas_types.proofs.LabelRules.{numbers_known}
 
 abbrev pub items : List (Behind Numeral) → List Numeral

@@ -11,20 +11,20 @@ use Rattle.pas_syntax.specs.declared.tree.Behind.{Behind as CodeBehind}
 use Rattle.pas_syntax.specs.Views.{spelled_in, ident_in, behind_in}
 use Rattle.pas_syntax.specs.Tree.{Ident, Behind, Idents, ProgramParameters}
 use Rattle.pas_syntax.specs.Words.{Word, at, name_at, idents_words, words_if, program_parameters_words}
-use Rattle.pas_types.specs.declared.stop.Stop.{Stop}
-use Rattle.pas_types.specs.declared.stop.Stop.TheVariants as stop
-use Rattle.pas_types.specs.Marks.{Marks, quiet, shows, joined, listed}
-use Rattle.pas_types.specs.Scopes.{Outer, idents_of}
+use Rattle.pas_scopes.specs.declared.stop.Stop.{Stop}
+use Rattle.pas_scopes.specs.declared.stop.Stop.TheVariants as stop
+use Rattle.pas_rules.specs.Marks.{Marks, quiet, shows, joined, listed}
+use Rattle.pas_rules.specs.Scopes.{Outer, idents_of}
 use Rattle.pas_typed.specs.declared.typed.Variable.{Variable as CodeVariable}
 use Rattle.pas_typed.specs.Typed.{Variable}
 use Rattle.pas_typed.specs.TypedViews.{variable_view}
-use Rattle.pas_types.specs.Check.{each_parameter, parameter_marks, file_numbers}
-use Rattle.pas_types.specs.inner.Answers.{FailsBy, IsQuiet}
+use Rattle.pas_rules.specs.Check.{each_parameter, parameter_marks, file_numbers}
+use Rattle.pas_scopes.specs.Answers.{FailsBy, IsQuiet}
 use Rattle.pas_types.specs.inner.Checking.{parameter_wrongs, IsParameter, AreParameters, IsHeading}
-use Rattle.pas_types.proofs.AsMany.{AsMany, one, next_word, behind_word}
-use Rattle.pas_types.proofs.SettleLemmas.{quiet_behind, quiet_word, quiet_alone, shows_front, shows_behind}
-use Rattle.pas_types.proofs.SettleLemmas.{shows_alone}
-use Rattle.pas_types.proofs.NewNameLemmas.{items, spelled, all_names, seen_behind}
+use Rattle.pas_rules.proofs.AsMany.{AsMany, one, next_word, behind_word}
+use Rattle.pas_scopes.proofs.SettleLemmas.{quiet_behind, quiet_word, quiet_alone, shows_front, shows_behind}
+use Rattle.pas_scopes.proofs.SettleLemmas.{shows_alone}
+use Rattle.pas_scopes.proofs.NewNameLemmas.{items, spelled, all_names, seen_behind}
 
 abbrev rest_words : ℕ → List (Behind Ident) → List Word
 rest_words n more = flat_map (λ behind. at n k.Comma behind.line ∷ (name_at n behind.item ∷ [])) more

@@ -13,25 +13,25 @@ use Rattle.pas_typed.specs.Types.{Table, integer}
 use Rattle.pas_typed.specs.Typed as typed
 use Rattle.pas_typed.specs.Typed.{Value, Item}
 use Rattle.pas_typed.specs.Texts.{undoubled}
-use Rattle.pas_types.specs.declared.stop.Stop.{Stop}
-use Rattle.pas_types.specs.declared.stop.Stop.TheVariants as stop
-use Rattle.pas_types.specs.declared.judged.Judged.{Judged as CodeJudged}
-use Rattle.pas_types.specs.Marks.{Marks, quiet, followed, joined, Judged, judged, means, both, checked, known}
-use Rattle.pas_types.specs.Scopes.{Scopes}
-use Rattle.pas_types.specs.Expressions.{only, value_of}
-use Rattle.pas_types.specs.Calls.{Actual, actual_of, text_in, width_of, width_value, item_on_text}
-use Rattle.pas_types.specs.inner.Stopping.{found_before}
+use Rattle.pas_scopes.specs.declared.stop.Stop.{Stop}
+use Rattle.pas_scopes.specs.declared.stop.Stop.TheVariants as stop
+use Rattle.pas_scopes.specs.declared.judged.Judged.{Judged as CodeJudged}
+use Rattle.pas_rules.specs.Marks.{Marks, quiet, followed, joined, Judged, judged, means, both, checked, known}
+use Rattle.pas_rules.specs.Scopes.{Scopes}
+use Rattle.pas_rules.specs.Expressions.{only, value_of}
+use Rattle.pas_rules.specs.Calls.{Actual, actual_of, text_in, width_of, width_value, item_on_text}
+use Rattle.pas_scopes.specs.Stopping.{found_before}
 use Rattle.pas_types.specs.inner.Transfers.{item_written, text_alone, string_written}
-use Rattle.pas_types.specs.inner.Answers.{Ending, lawful_end, settled_by, EndsAs, Stands, StandsAs, FailsBy, Shows}
-use Rattle.pas_types.specs.inner.Answers.{IsQuiet}
-use Rattle.pas_types.proofs.AsMany.{AsMany, all, checked_many, next_word}
-use Rattle.pas_types.proofs.EndLemmas.{ends_behind}
-use Rattle.pas_types.proofs.PartLemmas.{alone}
-use Rattle.pas_types.proofs.AnswerLemmas.{behind_word_ends, word_means}
-use Rattle.pas_types.proofs.SettleLemmas.{shows_front, shows_behind, shows_short, quiet_word}
-use Rattle.pas_types.proofs.ArgumentLemmas.{stands_quiet}
-use Rattle.pas_types.proofs.CallAnswers.{unsettled_is}
-use Rattle.pas_types.proofs.ExpressionsAsMany.{value_many}
+use Rattle.pas_scopes.specs.Answers.{Ending, lawful_end, settled_by, EndsAs, Stands, StandsAs, FailsBy, Shows}
+use Rattle.pas_scopes.specs.Answers.{IsQuiet}
+use Rattle.pas_rules.proofs.AsMany.{AsMany, all, checked_many, next_word}
+use Rattle.pas_scopes.proofs.EndLemmas.{ends_behind}
+use Rattle.pas_scopes.proofs.PartLemmas.{alone}
+use Rattle.pas_scopes.proofs.AnswerLemmas.{behind_word_ends, word_means}
+use Rattle.pas_scopes.proofs.SettleLemmas.{shows_front, shows_behind, shows_short, quiet_word}
+use Rattle.pas_scopes.proofs.ArgumentLemmas.{stands_quiet}
+use Rattle.pas_scopes.proofs.CallAnswers.{unsettled_is}
+use Rattle.pas_rules.proofs.ExpressionsAsMany.{value_many}
 
 module _ {A : Type 0} (scopes : Scopes) (n : ℕ) (words : List Word) (part : Judged A)
     (make : A → Option Value → Item) where

@@ -16,18 +16,18 @@ use Rattle.pas_typed.specs.TypeViews.{type_view}
 use Rattle.pas_typed.specs.TypedViews.{heading_view, variable_view}
 use Rattle.pas_typed.specs.Typed as typed
 use Rattle.pas_typed.specs.Typed.{Heading, Statement}
-use Rattle.pas_types.specs.declared.names.Entity.{Entity as CodeEntity}
-use Rattle.pas_types.specs.declared.names.Entity.TheVariants as code
-use Rattle.pas_types.specs.Marks.{Judged, judged, known}
-use Rattle.pas_types.specs.Scopes.{Scopes, unclear}
-use Rattle.pas_types.specs.NameViews.{entity_view}
-use Rattle.pas_types.specs.Expressions.{Given, called, not_called, heading_of, given, demands_of, passed_to}
-use Rattle.pas_types.specs.Calls.{Actual, actuals_of, without_width, procedure_with, routine_with, call_by}
-use Rattle.pas_types.specs.inner.Answers.{Shows, Means}
-use Rattle.pas_types.specs.inner.Arguments.{passing_part}
-use Rattle.pas_types.proofs.AsMany.{total, count}
-use Rattle.pas_types.proofs.ExpressionsAsMany.{not_called_count, plain_marks}
-use Rattle.pas_types.proofs.CallsAsMany.{actuals_total}
+use Rattle.pas_scopes.specs.declared.names.Entity.{Entity as CodeEntity}
+use Rattle.pas_scopes.specs.declared.names.Entity.TheVariants as code
+use Rattle.pas_rules.specs.Marks.{Judged, judged, known}
+use Rattle.pas_rules.specs.Scopes.{Scopes, unclear}
+use Rattle.pas_scopes.specs.NameViews.{entity_view}
+use Rattle.pas_rules.specs.Expressions.{Given, called, not_called, heading_of, given, demands_of, passed_to}
+use Rattle.pas_rules.specs.Calls.{Actual, actuals_of, without_width, procedure_with, routine_with, call_by}
+use Rattle.pas_scopes.specs.Answers.{Shows, Means}
+use Rattle.pas_scopes.specs.Arguments.{passing_part}
+use Rattle.pas_rules.proofs.AsMany.{total, count}
+use Rattle.pas_rules.proofs.ExpressionsAsMany.{not_called_count, plain_marks}
+use Rattle.pas_rules.proofs.CallsAsMany.{actuals_total}
 
 -- a name that may not be called so
 pub refused_statement : (scopes : Scopes) (n : ℕ) (name : Ident) (arguments : Arguments) (refusal : Wrong)

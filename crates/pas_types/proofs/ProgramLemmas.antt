@@ -9,24 +9,24 @@ use Rattle.pas_syntax.specs.Words.{Word, at, name_at, words_if, labels_words, ro
 use Rattle.pas_syntax.specs.Words.{type_row_words, variable_row_words, routine_words, program_parameters_words}
 use Rattle.pas_syntax.specs.Words.{program_words}
 use Rattle.pas_typed.specs.Typed.{Statements}
-use Rattle.pas_types.specs.Marks.{Marks, quiet, followed, Judged, first_fault}
-use Rattle.pas_types.specs.Labels.{labels_of_list, labels_in_list}
-use Rattle.pas_types.specs.Statements.{statements_of}
-use Rattle.pas_types.specs.Declarations.{label_marks, program_scopes, Stage, rows_of, constant_row, type_row}
-use Rattle.pas_types.specs.Declarations.{global_row}
-use Rattle.pas_types.specs.Routines.{RoutineStage, routines_of, all_stand}
-use Rattle.pas_types.specs.Check.{start, parameter_marks, have_bodies, checked_of, fault_of}
-use Rattle.pas_types.specs.inner.Ends.{AreQuiet}
-use Rattle.pas_types.specs.inner.Answers.{IsQuiet, Shows}
-use Rattle.pas_types.specs.inner.Declared.{Notes}
+use Rattle.pas_rules.specs.Marks.{Marks, quiet, followed, Judged, first_fault}
+use Rattle.pas_rules.specs.Labels.{labels_of_list, labels_in_list}
+use Rattle.pas_rules.specs.Statements.{statements_of}
+use Rattle.pas_rules.specs.Declarations.{label_marks, program_scopes, Stage, rows_of, constant_row, type_row}
+use Rattle.pas_rules.specs.Declarations.{global_row}
+use Rattle.pas_rules.specs.Routines.{RoutineStage, routines_of, all_stand}
+use Rattle.pas_rules.specs.Check.{start, parameter_marks, have_bodies, checked_of, fault_of}
+use Rattle.pas_scopes.specs.Ends.{AreQuiet}
+use Rattle.pas_scopes.specs.Answers.{IsQuiet, Shows}
+use Rattle.pas_scopes.specs.DeclaredSoFar.{Notes}
 use Rattle.pas_types.specs.inner.Checking.{main_words, main_part}
-use Rattle.pas_types.proofs.AsMany.{AsMany, and_then, next_word}
-use Rattle.pas_types.proofs.StatementsAsMany.{statements_many}
-use Rattle.pas_types.proofs.DeclarationsAsMany.{labels_many, rows_many, constant_row_many, type_row_many}
-use Rattle.pas_types.proofs.DeclarationsAsMany.{global_row_many}
-use Rattle.pas_types.proofs.RoutinesAsMany.{routines_many}
-use Rattle.pas_types.proofs.SettleLemmas.{quiet_behind, quiet_word, shows_front, shows_behind}
-use Rattle.pas_types.proofs.DeclaredLemmas.{notes_behind}
+use Rattle.pas_rules.proofs.AsMany.{AsMany, and_then, next_word}
+use Rattle.pas_rules.proofs.StatementsAsMany.{statements_many}
+use Rattle.pas_rules.proofs.DeclarationsAsMany.{labels_many, rows_many, constant_row_many, type_row_many}
+use Rattle.pas_rules.proofs.DeclarationsAsMany.{global_row_many}
+use Rattle.pas_rules.proofs.RoutinesAsMany.{routines_many}
+use Rattle.pas_scopes.proofs.SettleLemmas.{quiet_behind, quiet_word, shows_front, shows_behind}
+use Rattle.pas_scopes.proofs.DeclaredLemmas.{notes_behind}
 use Rattle.pas_types.proofs.MainLemmas.{main_many}
 
 module _ (program : Program) where

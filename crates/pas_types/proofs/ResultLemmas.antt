@@ -10,8 +10,8 @@ use Rattle.pas_typed.specs.Typed as typed
 use Rattle.pas_typed.specs.Typed.{Statements, Arms}
 use Rattle.pas_typed.specs.TypedViews.{statement_step, arm_step, labelled_step, statement_view, statements_view}
 use Rattle.pas_typed.specs.TypedViews.{arm_view, arms_view}
-use Rattle.pas_types.specs.Routines.{gives_result, list_gives_result, arm_gives_result}
-use Rattle.pas_types.proofs.LabelSeen.{taken_more}
+use Rattle.pas_rules.specs.Routines.{gives_result, list_gives_result, arm_gives_result}
+use Rattle.pas_scopes.proofs.LabelSeen.{taken_more}
 use Rattle.pas_types.proofs.StatementLists.{labelled_seen}
 
 -- a list around an item

@@ -6,15 +6,15 @@ use Rattle.pas_syntax.specs.Tree as tree
 use Rattle.pas_syntax.specs.Tree.{Behind, TypeName, Parameter, Parameters}
 use Rattle.pas_typed.specs.Types.{PasType, Table, Made}
 use Rattle.pas_typed.specs.Typed.{Mode, Variable, local}
-use Rattle.pas_types.specs.declared.scopes.Inner.{Inner as CodeInner}
-use Rattle.pas_types.specs.declared.scopes.KnownRoutine.{KnownRoutine as CodeRoutine}
-use Rattle.pas_types.specs.Marks.{Marks, no_token, quiet, known}
-use Rattle.pas_types.specs.Scopes.{Named, Outer, Inner, spellings_of}
-use Rattle.pas_types.specs.Declarations.{named_slots, variables_of, with_locals}
-use Rattle.pas_types.specs.Routines.{Sort, procedure, function, Formal, formal_behind, more_formals}
-use Rattle.pas_types.specs.Routines.{no_formals, formals_of, missing_result, heading_by, new_inner, mode_of}
-use Rattle.pas_types.specs.Routines.{type_in_heading}
-use Rattle.pas_types.specs.inner.Locals.{IsWaiting, IsWaitingIf, AreWaiting}
+use Rattle.pas_scopes.specs.declared.scopes.Inner.{Inner as CodeInner}
+use Rattle.pas_scopes.specs.declared.scopes.KnownRoutine.{KnownRoutine as CodeRoutine}
+use Rattle.pas_rules.specs.Marks.{Marks, no_token, quiet, known}
+use Rattle.pas_rules.specs.Scopes.{Named, Outer, Inner, spellings_of}
+use Rattle.pas_rules.specs.Declarations.{named_slots, variables_of, with_locals}
+use Rattle.pas_rules.specs.Routines.{Sort, procedure, function, Formal, formal_behind, more_formals}
+use Rattle.pas_rules.specs.Routines.{no_formals, formals_of, missing_result, heading_by, new_inner, mode_of}
+use Rattle.pas_rules.specs.Routines.{type_in_heading}
+use Rattle.pas_scopes.specs.Locals.{IsWaiting, IsWaitingIf, AreWaiting}
 use Rattle.pas_types.specs.inner.RoutineAnswers.{awaited_at, result_told}
 
 -- variables as names, of which more come behind

@@ -10,22 +10,23 @@ use Rattle.pas_syntax.specs.Tree.{Labels, Rows, VariableRow, Compound}
 use Rattle.pas_syntax.specs.Words.{Word, at, says, body_words, routine_words}
 use Rattle.pas_typed.specs.declared.typed.Body.{Body as CodeBody}
 use Rattle.pas_typed.specs.Typed as typed
-use Rattle.pas_types.specs.declared.scopes.Scopes.{Scopes as CodeScopes}
-use Rattle.pas_types.specs.declared.stop.Stop.{Stop}
-use Rattle.pas_types.specs.Marks.{Marks, quiet, shows, joined, followed, unless}
-use Rattle.pas_types.specs.Scopes.{Outer, Named, routine}
-use Rattle.pas_types.specs.Routines.{Sort, HeadingParts, HeadingStage, RoutineStage, head_of, second_heading, awaited}
-use Rattle.pas_types.specs.Routines.{headed_by, headed, routine_by, routine_of}
-use Rattle.pas_types.specs.NameViews.{with_new}
-use Rattle.pas_types.specs.ScopeViews.{outer_view}
-use Rattle.pas_types.specs.inner.Stopping.{demanded, shown_in}
-use Rattle.pas_types.specs.inner.Answers.{FailsBy, IsQuiet}
-use Rattle.pas_types.specs.inner.RoutineAnswers.{Heads, IsReady, awaited_at, parts_words}
+use Rattle.pas_scopes.specs.declared.scopes.Scopes.{Scopes as CodeScopes}
+use Rattle.pas_scopes.specs.declared.stop.Stop.{Stop}
+use Rattle.pas_rules.specs.Marks.{Marks, quiet, shows, joined, followed, unless}
+use Rattle.pas_rules.specs.Scopes.{Outer, Named, routine}
+use Rattle.pas_rules.specs.Routines.{Sort, HeadingParts, HeadingStage, RoutineStage, head_of, second_heading, awaited}
+use Rattle.pas_rules.specs.Routines.{headed_by, headed, routine_by, routine_of}
+use Rattle.pas_rules.specs.Scopes.{with_new}
+use Rattle.pas_scopes.specs.ScopeViews.{outer_view}
+use Rattle.pas_scopes.specs.Stopping.{demanded, shown_in}
+use Rattle.pas_scopes.specs.Answers.{FailsBy, IsQuiet}
+use Rattle.pas_types.specs.inner.RoutineAnswers.{Heads, IsReady, awaited_at}
+use Rattle.pas_rules.specs.HeadingWords.{parts_words}
 use Rattle.pas_types.specs.inner.RoutineStands.{IsNamed}
 use Rattle.pas_types.specs.inner.BlockAnswers.{block_marks, block_words, IsBlock, IsRoutine}
-use Rattle.pas_types.proofs.AsMany.{AsMany, all, one, next_word}
-use Rattle.pas_types.proofs.SettleLemmas.{quiet_word, quiet_behind, quiet_alone}
-use Rattle.pas_types.proofs.LocalRowLemmas.{fails_front, fails_behind}
+use Rattle.pas_rules.proofs.AsMany.{AsMany, all, one, next_word}
+use Rattle.pas_scopes.proofs.SettleLemmas.{quiet_word, quiet_behind, quiet_alone}
+use Rattle.pas_scopes.proofs.LocalRowLemmas.{fails_front, fails_behind}
 use Rattle.pas_types.proofs.RoutineWords.{first_word, heading_split, block_split}
 use Rattle.pas_types.proofs.BlockSteps.{block_many}
 

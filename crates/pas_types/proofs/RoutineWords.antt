@@ -6,8 +6,8 @@ use Rattle.pas_syntax.specs.Tree as tree
 use Rattle.pas_syntax.specs.Tree.{Labels, Rows, VariableRow, Compound}
 use Rattle.pas_syntax.specs.Words.{Word, at, words_if, labels_words, rows_words, variable_row_words, statements_words}
 use Rattle.pas_syntax.specs.Words.{name_at, parameters_words, result_words, heading_words, body_words}
-use Rattle.pas_types.specs.Routines.{head_of}
-use Rattle.pas_types.specs.inner.RoutineAnswers.{parts_words}
+use Rattle.pas_rules.specs.Routines.{head_of}
+use Rattle.pas_rules.specs.HeadingWords.{parts_words}
 
 -- the word that a heading begins with
 abbrev pub first_word : tree.Heading → Word

@@ -6,12 +6,13 @@ use Rattle.pas_tokens.specs.Cutting.{wrong}
 use Rattle.pas_tokens.specs.Tokens.{fault_in}
 use Rattle.pas_syntax.specs.Tree.{Ident, Behind, TypeName, Parameters}
 use Rattle.pas_syntax.specs.Words.{Word}
-use Rattle.pas_types.specs.declared.stop.Stop.{Stop}
-use Rattle.pas_types.specs.declared.stop.Stop.TheVariants as stop
-use Rattle.pas_types.specs.Scopes.{Outer}
-use Rattle.pas_types.specs.Routines.{Sort, HeadingParts, second_heading}
-use Rattle.pas_types.specs.inner.RoutineAnswers.{parts_words, IsSecond}
-use Rattle.pas_types.proofs.RoutinesAsMany.{second_heading_many}
+use Rattle.pas_scopes.specs.declared.stop.Stop.{Stop}
+use Rattle.pas_scopes.specs.declared.stop.Stop.TheVariants as stop
+use Rattle.pas_rules.specs.Scopes.{Outer}
+use Rattle.pas_rules.specs.Routines.{Sort, HeadingParts, second_heading}
+use Rattle.pas_rules.specs.HeadingWords.{parts_words}
+use Rattle.pas_types.specs.inner.RoutineAnswers.{IsSecond}
+use Rattle.pas_rules.proofs.RoutinesAsMany.{second_heading_many}
 
 module _ (outer : Outer) (word : Word) (sort : Sort) (name : Ident) (number line : ℕ) where
   abbrev pub head_with : Option Parameters → Option (Behind TypeName) → HeadingParts

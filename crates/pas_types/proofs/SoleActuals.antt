@@ -16,23 +16,23 @@ use Rattle.pas_syntax.specs.ProgramViews.{argument_in}
 use Rattle.pas_typed.specs.Types.{Table}
 use Rattle.pas_typed.specs.Typed as typed
 use Rattle.pas_typed.specs.Typed.{Value, Place, FileStep, Statement}
-use Rattle.pas_types.specs.declared.stop.Stop.{Stop}
-use Rattle.pas_types.specs.declared.judged.Judged.{Judged as CodeJudged}
-use Rattle.pas_types.specs.Marks.{Marks, Judged, judged, known, at_first}
-use Rattle.pas_types.specs.Scopes.{Scopes}
-use Rattle.pas_types.specs.Expressions.{Demand, Given, value_of, bare_argument, file_only, file_in}
-use Rattle.pas_types.specs.inner.Ends.{Ends, refusal_behind}
-use Rattle.pas_types.specs.inner.Stopping.{shown_in, found_before}
-use Rattle.pas_types.specs.inner.Answers.{Ending, end_in, settled_by, EndsAs, StopsBy, StandsAs, FailsBy, Settles}
-use Rattle.pas_types.specs.inner.Answers.{Means, closed_end}
-use Rattle.pas_types.specs.inner.Arguments.{taken_by, taken_as, plainly, sole_part}
-use Rattle.pas_types.proofs.SettleLemmas.{settles_at}
-use Rattle.pas_types.proofs.ArgumentLemmas.{Argued}
-use Rattle.pas_types.proofs.FitLemmas.{bare_many, bare_taken}
-use Rattle.pas_types.proofs.CallAnswers.{settled_is, unsettled_is, sole_words, sole, sole_fails, sole_ends, sole_short}
-use Rattle.pas_types.proofs.CallAnswers.{sole_many}
-use Rattle.pas_types.proofs.EntityCalls.{asked_file, sole_met}
-use Rattle.pas_types.proofs.ExprCalls.{got_none, got_first}
+use Rattle.pas_scopes.specs.declared.stop.Stop.{Stop}
+use Rattle.pas_scopes.specs.declared.judged.Judged.{Judged as CodeJudged}
+use Rattle.pas_rules.specs.Marks.{Marks, Judged, judged, known, at_first}
+use Rattle.pas_rules.specs.Scopes.{Scopes}
+use Rattle.pas_rules.specs.Expressions.{Demand, Given, value_of, bare_argument, file_only, file_in}
+use Rattle.pas_scopes.specs.Ends.{Ends, refusal_behind}
+use Rattle.pas_scopes.specs.Stopping.{shown_in, found_before}
+use Rattle.pas_scopes.specs.Answers.{Ending, end_in, settled_by, EndsAs, StopsBy, StandsAs, FailsBy, Settles}
+use Rattle.pas_scopes.specs.Answers.{Means, closed_end}
+use Rattle.pas_scopes.specs.Arguments.{taken_by, taken_as, plainly, sole_part}
+use Rattle.pas_scopes.proofs.SettleLemmas.{settles_at}
+use Rattle.pas_scopes.proofs.ArgumentLemmas.{Argued}
+use Rattle.pas_scopes.proofs.FitLemmas.{bare_many, bare_taken}
+use Rattle.pas_scopes.proofs.CallAnswers.{settled_is, unsettled_is, sole_words, sole, sole_fails, sole_ends, sole_short}
+use Rattle.pas_scopes.proofs.CallAnswers.{sole_many}
+use Rattle.pas_scopes.proofs.EntityCalls.{asked_file, sole_met}
+use Rattle.pas_scopes.proofs.ExprCalls.{got_none, got_first}
 use Rattle.pas_types.proofs.ActualLemmas.{argued_behind, behind_argued, first_actual, more_actuals, as_actuals}
 use Rattle.pas_types.proofs.ActualLemmas.{statement_words, actual_givens, width_fails, width_refused_by}
 use Rattle.pas_types.proofs.ActualLemmas.{no_width_stands, all_words, with_width}

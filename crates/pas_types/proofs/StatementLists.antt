@@ -19,22 +19,22 @@ use Rattle.pas_typed.specs.Typed.{Arms}
 use Rattle.pas_typed.specs.TypedViews.{statement_step, arm_step, labelled_step, statement_view, labelled_view}
 use Rattle.pas_typed.specs.TypedViews.{statements_view}
 use Rattle.pas_types.specs.declared.flow.Flow.{Flow}
-use Rattle.pas_types.specs.declared.scopes.Scopes.{Scopes as CodeScopes}
-use Rattle.pas_types.specs.declared.stop.Stop.{Stop}
-use Rattle.pas_types.specs.declared.stop.Stop.TheVariants as stop
-use Rattle.pas_types.specs.Marks.{quiet, joined, Judged, known}
-use Rattle.pas_types.specs.Scopes.{Scopes}
-use Rattle.pas_types.specs.Labels.{in_list, labels_at, labels_in_list}
-use Rattle.pas_types.specs.Statements.{statement_of, statements_of, label_of, with_statement}
-use Rattle.pas_types.specs.ScopeViews.{scopes_view, IsClear}
-use Rattle.pas_types.specs.inner.Stopping.{stop_before}
-use Rattle.pas_types.specs.inner.Answers.{Means, ShowsBy, Settles}
+use Rattle.pas_scopes.specs.declared.scopes.Scopes.{Scopes as CodeScopes}
+use Rattle.pas_scopes.specs.declared.stop.Stop.{Stop}
+use Rattle.pas_scopes.specs.declared.stop.Stop.TheVariants as stop
+use Rattle.pas_rules.specs.Marks.{quiet, joined, Judged, known}
+use Rattle.pas_rules.specs.Scopes.{Scopes}
+use Rattle.pas_rules.specs.Labels.{in_list, labels_at, labels_in_list}
+use Rattle.pas_rules.specs.Statements.{statement_of, statements_of, label_of, with_statement}
+use Rattle.pas_scopes.specs.ScopeViews.{scopes_view, IsClear}
+use Rattle.pas_scopes.specs.Stopping.{stop_before}
+use Rattle.pas_scopes.specs.Answers.{Means, ShowsBy, Settles}
 use Rattle.pas_types.specs.inner.FlowViews.{IsFlow, ShowsBefore, listed_statement, IsListed, Goes}
-use Rattle.pas_types.proofs.AsMany.{AsMany, all, next_word}
-use Rattle.pas_types.proofs.StatementsAsMany.{statement_many}
-use Rattle.pas_types.proofs.SettleLemmas.{quiet_alone, shows_alone}
+use Rattle.pas_rules.proofs.AsMany.{AsMany, all, next_word}
+use Rattle.pas_rules.proofs.StatementsAsMany.{statement_many}
+use Rattle.pas_scopes.proofs.SettleLemmas.{quiet_alone, shows_alone}
 use Rattle.pas_types.proofs.ChainLemmas.{made_of, made_of_both, before_shows, behind_shows, behind_quiet, fault_front}
-use Rattle.pas_types.proofs.LabelSeen.{more_seen, taken_more, turned_push, map_push}
+use Rattle.pas_scopes.proofs.LabelSeen.{more_seen, taken_more, turned_push, map_push}
 use Rattle.pas_types.proofs.FlowLemmas.{regroup}
 
 -- what was found of the last statement of a list: with it the list means this, and this is known behind it

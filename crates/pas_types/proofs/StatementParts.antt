@@ -10,22 +10,22 @@ use Rattle.pas_syntax.specs.Words.{Word, at, name_at, way_kind, expr_words, plai
 use Rattle.pas_syntax.specs.Words.{number_at, statements_words}
 use Rattle.pas_typed.specs.Typed as typed
 use Rattle.pas_typed.specs.Typed.{Slot, Value}
-use Rattle.pas_types.specs.declared.stop.Stop.{Stop}
-use Rattle.pas_types.specs.Marks.{Marks, no_token, quiet, followed, joined, Judged, judged}
-use Rattle.pas_types.specs.Marks.{shows, checked, lowest}
-use Rattle.pas_types.specs.Scopes.{Scopes, entity_of}
-use Rattle.pas_types.specs.Labels.{Spot, elsewhere, label_faults, labels_at, labels_of_list}
-use Rattle.pas_types.specs.Expressions.{value_of}
-use Rattle.pas_types.specs.Statements.{test_of, plain_of, statement_of, statements_of, list_of, for_variable, fits_slot}
-use Rattle.pas_types.specs.inner.Ends.{lowest_of}
-use Rattle.pas_types.specs.inner.Stopping.{shown_in}
-use Rattle.pas_types.specs.inner.Answers.{stands_at, IsQuiet, Means, ShowsBy, Settles}
+use Rattle.pas_scopes.specs.declared.stop.Stop.{Stop}
+use Rattle.pas_rules.specs.Marks.{Marks, no_token, quiet, followed, joined, Judged, judged}
+use Rattle.pas_rules.specs.Marks.{shows, checked, lowest}
+use Rattle.pas_rules.specs.Scopes.{Scopes, entity_of}
+use Rattle.pas_rules.specs.Labels.{Spot, elsewhere, label_faults, labels_at, labels_of_list}
+use Rattle.pas_rules.specs.Expressions.{value_of}
+use Rattle.pas_rules.specs.Statements.{test_of, plain_of, statement_of, statements_of, list_of, for_variable, fits_slot}
+use Rattle.pas_scopes.specs.Ends.{lowest_of}
+use Rattle.pas_scopes.specs.Stopping.{shown_in}
+use Rattle.pas_scopes.specs.Answers.{stands_at, IsQuiet, Means, ShowsBy, Settles}
 use Rattle.pas_types.specs.inner.FlowViews.{ShowsBefore}
-use Rattle.pas_types.proofs.AsMany.{AsMany, all, and_then, next_word, checked_many, none}
-use Rattle.pas_types.proofs.AsMany.{around as between_words, one as one_word}
-use Rattle.pas_types.proofs.ExpressionsAsMany.{value_many}
-use Rattle.pas_types.proofs.StatementsAsMany.{plain_many, statement_many, test_many}
-use Rattle.pas_types.proofs.SettleLemmas.{quiet_alone, shows_alone, nothing_shown, quiet_behind, shows_by_behind}
+use Rattle.pas_rules.proofs.AsMany.{AsMany, all, and_then, next_word, checked_many, none}
+use Rattle.pas_rules.proofs.AsMany.{around as between_words, one as one_word}
+use Rattle.pas_rules.proofs.ExpressionsAsMany.{value_many}
+use Rattle.pas_rules.proofs.StatementsAsMany.{plain_many, statement_many, test_many}
+use Rattle.pas_scopes.proofs.SettleLemmas.{quiet_alone, shows_alone, nothing_shown, quiet_behind, shows_by_behind}
 use Rattle.pas_types.proofs.ChainLemmas.{made_of, made_of_both, made_of_three, made_of_four, word_shows, word_quiet}
 use Rattle.pas_types.proofs.ChainLemmas.{before_shows, behind_shows, behind_quiet, guard_shows, guarded_shows}
 use Rattle.pas_types.proofs.ChainLemmas.{guarded_quiet}

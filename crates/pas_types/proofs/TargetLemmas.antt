@@ -18,20 +18,20 @@ use Rattle.pas_syntax.specs.Words.{Word, at, variable_words, expr_words, plain_w
 use Rattle.pas_typed.specs.Types.{Table}
 use Rattle.pas_typed.specs.Typed as typed
 use Rattle.pas_typed.specs.Typed.{Slot, Value}
-use Rattle.pas_types.specs.declared.stop.Stop.{Stop}
-use Rattle.pas_types.specs.declared.stop.Stop.TheVariants as stop
-use Rattle.pas_types.specs.Marks.{joined, Judged, checked, means, refuses}
-use Rattle.pas_types.specs.Scopes.{Scopes, variable}
-use Rattle.pas_types.specs.Expressions.{place_of, value_of}
-use Rattle.pas_types.specs.Statements.{Target, target_of, target_place, assigned_only, fits_target, assigned}
-use Rattle.pas_types.specs.Statements.{assignment_of, counts, for_variable}
-use Rattle.pas_types.specs.inner.Stopping.{shown_in, demanded}
-use Rattle.pas_types.specs.inner.Answers.{Means, StopsBy, ShowsBy}
+use Rattle.pas_scopes.specs.declared.stop.Stop.{Stop}
+use Rattle.pas_scopes.specs.declared.stop.Stop.TheVariants as stop
+use Rattle.pas_rules.specs.Marks.{joined, Judged, checked, means, refuses}
+use Rattle.pas_rules.specs.Scopes.{Scopes, variable}
+use Rattle.pas_rules.specs.Expressions.{place_of, value_of}
+use Rattle.pas_rules.specs.Statements.{Target, target_of, target_place, assigned_only, fits_target, assigned}
+use Rattle.pas_rules.specs.Statements.{assignment_of, counts, for_variable}
+use Rattle.pas_scopes.specs.Stopping.{shown_in, demanded}
+use Rattle.pas_scopes.specs.Answers.{Means, StopsBy, ShowsBy}
 use Rattle.pas_types.specs.inner.FlowViews.{ShowsBefore, Precedes}
-use Rattle.pas_types.proofs.AsMany.{AsMany, all, checked_many}
-use Rattle.pas_types.proofs.ExpressionsAsMany.{value_many}
-use Rattle.pas_types.proofs.AnswerLemmas.{stops_shows}
-use Rattle.pas_types.proofs.SettleLemmas.{quiet_alone, shows_alone}
+use Rattle.pas_rules.proofs.AsMany.{AsMany, all, checked_many}
+use Rattle.pas_rules.proofs.ExpressionsAsMany.{value_many}
+use Rattle.pas_scopes.proofs.AnswerLemmas.{stops_shows}
+use Rattle.pas_scopes.proofs.SettleLemmas.{quiet_alone, shows_alone}
 use Rattle.pas_types.proofs.LabelLemmas.{by_false}
 use Rattle.pas_types.proofs.ChainLemmas.{made_of_both, before_shows, behind_shows, behind_quiet}
 

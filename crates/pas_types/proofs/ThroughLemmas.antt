@@ -10,26 +10,26 @@ use Rattle.pas_typed.specs.declared.typed.Body.{Body as CodeBody}
 use Rattle.pas_typed.specs.Types.{Table}
 use Rattle.pas_typed.specs.Typed as typed
 use Rattle.pas_typed.specs.TypedViews.{body_view}
-use Rattle.pas_types.specs.declared.scopes.Scopes.{Scopes as CodeScopes}
-use Rattle.pas_types.specs.declared.stop.Stop.{Stop}
-use Rattle.pas_types.specs.declared.stop.Stop.TheVariants as stop
-use Rattle.pas_types.specs.Marks.{Marks, no_token, joined, both}
-use Rattle.pas_types.specs.Scopes.{Named, Outer, unclear, entity_in}
-use Rattle.pas_types.specs.Declarations.{program_scopes}
-use Rattle.pas_types.specs.Routines.{RoutineStage, routine_of, routines_of}
-use Rattle.pas_types.specs.NameViews.{with_new}
-use Rattle.pas_types.specs.ScopeViews.{outer_view, IsClear}
-use Rattle.pas_types.specs.inner.Declared.{IsDeclared, IsAlike, IsCounted, AreFiled, Notes}
-use Rattle.pas_types.specs.inner.Locals.{AreWaiting}
+use Rattle.pas_scopes.specs.declared.scopes.Scopes.{Scopes as CodeScopes}
+use Rattle.pas_scopes.specs.declared.stop.Stop.{Stop}
+use Rattle.pas_scopes.specs.declared.stop.Stop.TheVariants as stop
+use Rattle.pas_rules.specs.Marks.{Marks, no_token, joined, both}
+use Rattle.pas_rules.specs.Scopes.{Named, Outer, unclear, entity_in}
+use Rattle.pas_rules.specs.Declarations.{program_scopes}
+use Rattle.pas_rules.specs.Routines.{RoutineStage, routine_of, routines_of}
+use Rattle.pas_rules.specs.Scopes.{with_new}
+use Rattle.pas_scopes.specs.ScopeViews.{outer_view, IsClear}
+use Rattle.pas_scopes.specs.DeclaredSoFar.{IsDeclared, IsAlike, IsCounted, AreFiled, Notes}
+use Rattle.pas_scopes.specs.Locals.{AreWaiting}
 use Rattle.pas_types.specs.inner.RoutineAnswers.{IsReady, GoesThrough, IsBehind}
 use Rattle.pas_types.specs.inner.BlockAnswers.{IsRoutine}
 use Rattle.pas_types.specs.inner.RoutineStands.{masked, IsHeldIf, IsNoted, StandsFor, IsNamed, Steps}
-use Rattle.pas_types.proofs.AsMany.{all}
-use Rattle.pas_types.proofs.RoutinesAsMany.{routines_many}
-use Rattle.pas_types.proofs.PartLemmas.{alone}
-use Rattle.pas_types.proofs.SettleLemmas.{nothing_shown}
-use Rattle.pas_types.proofs.DeclaredLemmas.{notes_behind, notes_quiet}
-use Rattle.pas_types.proofs.ConstantRowLemmas.{view_is}
+use Rattle.pas_rules.proofs.AsMany.{all}
+use Rattle.pas_rules.proofs.RoutinesAsMany.{routines_many}
+use Rattle.pas_scopes.proofs.PartLemmas.{alone}
+use Rattle.pas_scopes.proofs.SettleLemmas.{nothing_shown}
+use Rattle.pas_scopes.proofs.DeclaredLemmas.{notes_behind, notes_quiet}
+use Rattle.pas_scopes.proofs.ConstantRowLemmas.{view_is}
 use Rattle.pas_types.proofs.FollowLemmas.{noted_serves, held_in}
 use Rattle.pas_types.proofs.FollowRoutines.{noted_next, noted_first, head_name}
 

@@ -7,14 +7,14 @@ use Rattle.pas_typed.specs.Types.{PasType, component_of}
 use Rattle.pas_typed.specs.TypeOf.{type_of_place}
 use Rattle.pas_types.specs.inner.Transfers.{component_of_item, item_written}
 use Rattle.pas_typed.specs.Typed.{Value, Place}
-use Rattle.pas_types.specs.Marks.{Judged}
-use Rattle.pas_types.specs.Scopes.{Scopes}
-use Rattle.pas_types.specs.Expressions.{met}
-use Rattle.pas_types.specs.Calls.{Actual, actual_of, read_item, read_demand, without_width, component_demand}
-use Rattle.pas_types.specs.inner.Listed.{item_at}
-use Rattle.pas_types.proofs.AsMany.{AsMany}
-use Rattle.pas_types.proofs.ExpressionsAsMany.{met_count}
-use Rattle.pas_types.proofs.CallsAsMany.{argument_many, text_count, on_text_count}
+use Rattle.pas_rules.specs.Marks.{Judged}
+use Rattle.pas_rules.specs.Scopes.{Scopes}
+use Rattle.pas_rules.specs.Expressions.{met}
+use Rattle.pas_rules.specs.Calls.{Actual, actual_of, read_item, read_demand, without_width, component_demand}
+use Rattle.pas_scopes.specs.inner.Listed.{item_at}
+use Rattle.pas_rules.proofs.AsMany.{AsMany}
+use Rattle.pas_rules.proofs.ExpressionsAsMany.{met_count}
+use Rattle.pas_rules.proofs.CallsAsMany.{argument_many, text_count, on_text_count}
 
 module _ (scopes : Scopes) (spellings : List ℕ) (n : ℕ) where
   pub read_many : (file : Option Place) (before : Word) (argument : CodeArgument)

@@ -18,28 +18,28 @@ use Rattle.pas_typed.specs.Typed as typed
 use Rattle.pas_typed.specs.Typed.{Value, Place}
 use Rattle.pas_typed.specs.TypeOf.{type_of, type_of_place}
 use Rattle.pas_typed.specs.TypedViews.{passed_view, passed_views}
-use Rattle.pas_types.specs.declared.stop.Stop.{Stop}
-use Rattle.pas_types.specs.declared.stop.Stop.TheVariants as stop
-use Rattle.pas_types.specs.Marks.{Marks, shows, first_of, followed, joined, unless, Judged, judged, both, checked}
-use Rattle.pas_types.specs.Marks.{first_fault}
-use Rattle.pas_types.specs.Scopes.{Scopes}
-use Rattle.pas_types.specs.Expressions.{Demand, bare, place_in, value_of}
-use Rattle.pas_types.specs.Calls.{is_call_by_name, read_demand, read_from_text, read_component, no_width}
-use Rattle.pas_types.specs.Calls.{width_of, actual_of, read_item}
-use Rattle.pas_types.specs.inner.Ends.{shown_behind, lower_of}
-use Rattle.pas_types.specs.inner.Stopping.{shown_in}
-use Rattle.pas_types.specs.inner.Answers.{Ending, EndsAs, StandsAs, FailsBy, noted_end, stands_by}
-use Rattle.pas_types.specs.inner.Answers.{Shows}
+use Rattle.pas_scopes.specs.declared.stop.Stop.{Stop}
+use Rattle.pas_scopes.specs.declared.stop.Stop.TheVariants as stop
+use Rattle.pas_rules.specs.Marks.{Marks, shows, first_of, followed, joined, unless, Judged, judged, both, checked}
+use Rattle.pas_rules.specs.Marks.{first_fault}
+use Rattle.pas_rules.specs.Scopes.{Scopes}
+use Rattle.pas_rules.specs.Expressions.{Demand, bare, place_in, value_of}
+use Rattle.pas_rules.specs.Calls.{is_call_by_name, read_demand, read_from_text, read_component, no_width}
+use Rattle.pas_rules.specs.Calls.{width_of, actual_of, read_item}
+use Rattle.pas_scopes.specs.Ends.{shown_behind, lower_of}
+use Rattle.pas_scopes.specs.Stopping.{shown_in}
+use Rattle.pas_scopes.specs.Answers.{Ending, EndsAs, StandsAs, FailsBy, noted_end, stands_by}
+use Rattle.pas_scopes.specs.Answers.{Shows}
 use Rattle.pas_types.specs.inner.Transfers.{width_refused, without_width_behind, place_by}
-use Rattle.pas_types.proofs.AsMany.{AsMany, all, and_then, next_word}
-use Rattle.pas_types.proofs.EndLemmas.{behind_quiet, quiet_many, checked_refused}
-use Rattle.pas_types.proofs.PartLemmas.{alone}
-use Rattle.pas_types.proofs.AnswerLemmas.{checked_ends, checked_fails, checked_stands, fails_at}
-use Rattle.pas_types.proofs.AnswerLemmas.{stands_lawful, stops_fails}
-use Rattle.pas_types.proofs.ArgumentLemmas.{stands_quiet}
-use Rattle.pas_types.proofs.SettleLemmas.{shows_front}
-use Rattle.pas_types.proofs.ExpressionsAsMany.{value_many}
-use Rattle.pas_types.proofs.CallsAsMany.{width_many}
+use Rattle.pas_rules.proofs.AsMany.{AsMany, all, and_then, next_word}
+use Rattle.pas_scopes.proofs.EndLemmas.{behind_quiet, quiet_many, checked_refused}
+use Rattle.pas_scopes.proofs.PartLemmas.{alone}
+use Rattle.pas_scopes.proofs.AnswerLemmas.{checked_ends, checked_fails, checked_stands, fails_at}
+use Rattle.pas_scopes.proofs.AnswerLemmas.{stands_lawful, stops_fails}
+use Rattle.pas_scopes.proofs.ArgumentLemmas.{stands_quiet}
+use Rattle.pas_scopes.proofs.SettleLemmas.{shows_front}
+use Rattle.pas_rules.proofs.ExpressionsAsMany.{value_many}
+use Rattle.pas_rules.proofs.CallsAsMany.{width_many}
 
 -- the call of a function with arguments
 pub first_passed : (passed : List code_passed.Passed) (first : code_passed.Passed) → Some first ≡ slice_get passed 0

@@ -18,30 +18,30 @@ use Rattle.pas_typed.specs.TypedViews.{place_view}
 use Rattle.pas_typed.specs.Types.{PasType, whole, text, row, same_type}
 use Rattle.pas_typed.specs.Typed as typed
 use Rattle.pas_typed.specs.Typed.{Slot, Value, Place, Statement}
-use Rattle.pas_types.specs.declared.stop.Stop.{Stop}
+use Rattle.pas_scopes.specs.declared.stop.Stop.{Stop}
 use Rattle.pas_types.specs.declared.transfers.Extent.{Extent as CodeExtent}
 use Rattle.pas_types.specs.declared.transfers.Extent.TheVariants as code
-use Rattle.pas_types.specs.Marks.{Marks, quiet, shows, joined, listed, lowest, Judged, judged, known, both}
-use Rattle.pas_types.specs.Marks.{all_known, checked, checked_by, kept_by}
-use Rattle.pas_types.specs.Scopes.{Scopes, Entity, constant, type, variable, routine, function, file_test, file_step}
-use Rattle.pas_types.specs.Scopes.{procedure, unclear, entity_of, global_text, standard_file, is_global, read, readln}
-use Rattle.pas_types.specs.Expressions.{Demand, Given, Bare, met}
-use Rattle.pas_types.specs.Calls.{Actual, actual_of, without_width, Extent, items_alone, whole_line, demand_on_file}
-use Rattle.pas_types.specs.Calls.{is_text, write_items, write_bytes, write_text}
+use Rattle.pas_rules.specs.Marks.{Marks, quiet, shows, joined, listed, lowest, Judged, judged, known, both}
+use Rattle.pas_rules.specs.Marks.{all_known, checked, checked_by, kept_by}
+use Rattle.pas_rules.specs.Scopes.{Scopes, Entity, constant, type, variable, routine, function, file_test, file_step}
+use Rattle.pas_rules.specs.Scopes.{procedure, unclear, entity_of, global_text, standard_file, is_global, read, readln}
+use Rattle.pas_rules.specs.Expressions.{Demand, Given, Bare, met}
+use Rattle.pas_rules.specs.Calls.{Actual, actual_of, without_width, Extent, items_alone, whole_line, demand_on_file}
+use Rattle.pas_rules.specs.Calls.{is_text, write_items, write_bytes, write_text}
 use Rattle.pas_typed.specs.TypeOf.{type_of_place}
 use Rattle.pas_typed.specs.Types.{component_of}
 use Rattle.pas_types.proofs.TransferItems.{bytes_item}
-use Rattle.pas_types.specs.Calls.{procedure_of, read_with, read_item, reads_by, transfer_by, whole_file, input}
-use Rattle.pas_types.specs.Calls.{Transfer, on_named, on_standard, missing_items, transferred, values_if}
-use Rattle.pas_types.specs.inner.Stopping.{shown_in}
-use Rattle.pas_types.specs.inner.Answers.{FailsBy, ShowsBy, IsQuiet, Means, Settles}
-use Rattle.pas_types.specs.inner.Listed.{Item, item_words, items_marks, values_of, closed_marks, item_at}
-use Rattle.pas_types.specs.inner.Listed.{items_behind, line_behind, Gathered, FailsWithin}
+use Rattle.pas_rules.specs.Calls.{procedure_of, read_with, read_item, reads_by, transfer_by, whole_file, input}
+use Rattle.pas_rules.specs.Calls.{Transfer, on_named, on_standard, missing_items, transferred, values_if}
+use Rattle.pas_scopes.specs.Stopping.{shown_in}
+use Rattle.pas_scopes.specs.Answers.{FailsBy, ShowsBy, IsQuiet, Means, Settles}
+use Rattle.pas_scopes.specs.inner.Listed.{Item, item_words, items_marks, values_of, closed_marks, item_at}
+use Rattle.pas_scopes.specs.inner.Listed.{items_behind, line_behind, Gathered, FailsWithin}
 use Rattle.pas_types.specs.inner.Transfers.{reading, extent_view, behind_actuals, refused_by, Makes, MeansFile}
-use Rattle.pas_types.proofs.AsMany.{AsMany}
-use Rattle.pas_types.proofs.CallsAsMany.{call_many}
-use Rattle.pas_types.proofs.SettleLemmas.{fails_shows, quiet_behind, quiet_word, quiet_alone}
-use Rattle.pas_types.proofs.ListedLemmas.{call_marks, few_shows, item_quiet, some_both}
+use Rattle.pas_rules.proofs.AsMany.{AsMany}
+use Rattle.pas_rules.proofs.CallsAsMany.{call_many}
+use Rattle.pas_scopes.proofs.SettleLemmas.{fails_shows, quiet_behind, quiet_word, quiet_alone}
+use Rattle.pas_scopes.proofs.ListedLemmas.{call_marks, few_shows, item_quiet, some_both}
 use Rattle.pas_types.proofs.GatherLemmas.{next_fails, next_short, line_at, line_dropped}
 
 -- items that are missing

@@ -10,11 +10,11 @@ use Rattle.pas_syntax.specs.Words.{words_if, labels_words}
 use Rattle.pas_typed.specs.declared.typed.Body.{Body as CodeBody}
 use Rattle.pas_typed.specs.declared.typed.Labelled as code_labelled
 use Rattle.pas_typed.specs.TypedViews.{statements_view}
-use Rattle.pas_types.specs.declared.scopes.Scopes.{Scopes as CodeScopes}
-use Rattle.pas_types.specs.declared.stop.Stop.{Stop}
-use Rattle.pas_types.specs.Declarations.{label_marks}
-use Rattle.pas_types.specs.Check.{start}
-use Rattle.pas_types.specs.inner.Declared.{IsDeclared, Notes}
+use Rattle.pas_scopes.specs.declared.scopes.Scopes.{Scopes as CodeScopes}
+use Rattle.pas_scopes.specs.declared.stop.Stop.{Stop}
+use Rattle.pas_rules.specs.Declarations.{label_marks}
+use Rattle.pas_rules.specs.Check.{start}
+use Rattle.pas_scopes.specs.DeclaredSoFar.{IsDeclared, Notes}
 use Rattle.pas_types.specs.inner.LabelViews.{Known}
 use Rattle.pas_types.specs.inner.Programs.{LabelsIf, GoesOver, ComesTo, FaultBy, IsFaultless}
 use Rattle.pas_types.proofs.WholeLemmas.{GoesFrom, goes_whole, comes_to}

@@ -23,29 +23,29 @@ use Rattle.pas_typed.specs.declared.typed.Labelled as code_labelled
 use Rattle.pas_typed.specs.declared.typed.TypedProgram.{TypedProgram as CodeProgram}
 use Rattle.pas_typed.specs.Typed.{Body, Statements, TypedProgram}
 use Rattle.pas_typed.specs.TypedViews.{heading_view, body_view, statements_view, program_view}
-use Rattle.pas_types.specs.declared.scopes.Scopes.{Scopes as CodeScopes}
-use Rattle.pas_types.specs.declared.scopes.KnownRoutine.{KnownRoutine as CodeKnown}
-use Rattle.pas_types.specs.declared.stop.Stop.{Stop}
-use Rattle.pas_types.specs.declared.stop.Stop.TheVariants as stop
-use Rattle.pas_types.specs.Marks.{Marks, quiet, shows, joined, listed, unless, both}
-use Rattle.pas_types.specs.Scopes.{Outer, Scopes, contains, idents_of, entity_in}
-use Rattle.pas_types.specs.Labels.{labels_of_list, labels_in_list}
-use Rattle.pas_types.specs.Statements.{statements_of}
-use Rattle.pas_types.specs.Declarations.{declared_labels, label_marks, rows_of, constant_row, type_row, global_row}
-use Rattle.pas_types.specs.Declarations.{program_scopes}
-use Rattle.pas_types.specs.Routines.{routines_of, all_stand}
-use Rattle.pas_types.specs.Check.{start, parameter_faults, each_parameter, parameter_marks, have_bodies}
-use Rattle.pas_types.specs.Check.{file_numbers, parameter_names, checked_of, Means}
-use Rattle.pas_types.specs.ScopeViews.{routine_view, outer_view, scopes_view, IsClear}
-use Rattle.pas_types.specs.inner.Answers.{IsQuiet, FailsBy}
-use Rattle.pas_types.specs.inner.Declared.{first_noted, IsDeclared, Notes, Declares}
+use Rattle.pas_scopes.specs.declared.scopes.Scopes.{Scopes as CodeScopes}
+use Rattle.pas_scopes.specs.declared.scopes.KnownRoutine.{KnownRoutine as CodeKnown}
+use Rattle.pas_scopes.specs.declared.stop.Stop.{Stop}
+use Rattle.pas_scopes.specs.declared.stop.Stop.TheVariants as stop
+use Rattle.pas_rules.specs.Marks.{Marks, quiet, shows, joined, listed, unless, both}
+use Rattle.pas_rules.specs.Scopes.{Outer, Scopes, contains, idents_of, entity_in}
+use Rattle.pas_rules.specs.Labels.{labels_of_list, labels_in_list}
+use Rattle.pas_rules.specs.Statements.{statements_of}
+use Rattle.pas_rules.specs.Declarations.{declared_labels, label_marks, rows_of, constant_row, type_row, global_row}
+use Rattle.pas_rules.specs.Declarations.{program_scopes}
+use Rattle.pas_rules.specs.Routines.{routines_of, all_stand}
+use Rattle.pas_rules.specs.Check.{start, parameter_faults, each_parameter, parameter_marks, have_bodies}
+use Rattle.pas_rules.specs.Check.{file_numbers, parameter_names, checked_of, Means}
+use Rattle.pas_scopes.specs.ScopeViews.{routine_view, outer_view, scopes_view, IsClear}
+use Rattle.pas_scopes.specs.Answers.{IsQuiet, FailsBy}
+use Rattle.pas_scopes.specs.DeclaredSoFar.{first_noted, IsDeclared, Notes, Declares}
 use Rattle.pas_types.specs.inner.LabelViews.{Known, numbers_of, known_labels}
 use Rattle.pas_types.specs.inner.RoutineAnswers.{GoesThrough, ServesAs, IsBehind}
 use Rattle.pas_types.specs.inner.Checking.{main_part, IsWhole, IsHeading}
 use Rattle.pas_types.specs.inner.Programs.{LabelsIf, GoesOver, routines_stage, ComesTo, FaultBy, not_noted}
 use Rattle.pas_types.specs.inner.Programs.{constants_stage, types_stage, variables_stage, IsFaultless, IsFaultlessBy}
 use Rattle.pas_types.specs.inner.Programs.{Checks}
-use Rattle.pas_types.proofs.ConstantRowLemmas.{view_is, alike_of}
+use Rattle.pas_scopes.proofs.ConstantRowLemmas.{view_is, alike_of}
 use Rattle.pas_types.proofs.LabelRules.{numbers_known}
 use Rattle.pas_types.proofs.ProgramLemmas.{main, at_main, at_labels, from_labels, noted_all, no_fault, later_fault}
 use Rattle.pas_types.proofs.ProgramLemmas.{head_fault}

@@ -15,21 +15,21 @@ use Rattle.pas_typed.specs.Types.{Table, PasType, text, same_type, component_of}
 use Rattle.pas_typed.specs.Typed as typed
 use Rattle.pas_typed.specs.Typed.{Slot, Value, Place, Item as SpecItem, Statement}
 use Rattle.pas_typed.specs.TypeOf.{type_of_place}
-use Rattle.pas_types.specs.declared.stop.Stop.{Stop}
+use Rattle.pas_scopes.specs.declared.stop.Stop.{Stop}
 use Rattle.pas_types.specs.declared.transfers.Extent.{Extent as CodeExtent}
 use Rattle.pas_types.specs.declared.transfers.Extent.TheVariants as code
-use Rattle.pas_types.specs.Marks.{Marks, Judged, known}
-use Rattle.pas_types.specs.Scopes.{Scopes, procedure, write, writeln}
-use Rattle.pas_types.specs.Expressions.{met}
-use Rattle.pas_types.specs.Calls.{Actual, without_width, Extent, items_alone, whole_line, demand_on_file, output}
-use Rattle.pas_types.specs.Calls.{write_items, write_bytes, write_text, write_with, whole_file, procedure_of}
-use Rattle.pas_types.specs.Calls.{Transfer, on_named, on_standard, transfer_by, transfer_of, missing_items}
-use Rattle.pas_types.specs.inner.Stopping.{shown_in}
-use Rattle.pas_types.specs.inner.Answers.{FailsBy, ShowsBy, IsQuiet, Means}
-use Rattle.pas_types.specs.inner.Listed.{Item, item_at, items_behind, Gathered, FailsWithin}
+use Rattle.pas_rules.specs.Marks.{Marks, Judged, known}
+use Rattle.pas_rules.specs.Scopes.{Scopes, procedure, write, writeln}
+use Rattle.pas_rules.specs.Expressions.{met}
+use Rattle.pas_rules.specs.Calls.{Actual, without_width, Extent, items_alone, whole_line, demand_on_file, output}
+use Rattle.pas_rules.specs.Calls.{write_items, write_bytes, write_text, write_with, whole_file, procedure_of}
+use Rattle.pas_rules.specs.Calls.{Transfer, on_named, on_standard, transfer_by, transfer_of, missing_items}
+use Rattle.pas_scopes.specs.Stopping.{shown_in}
+use Rattle.pas_scopes.specs.Answers.{FailsBy, ShowsBy, IsQuiet, Means}
+use Rattle.pas_scopes.specs.inner.Listed.{Item, item_at, items_behind, Gathered, FailsWithin}
 use Rattle.pas_types.specs.inner.Transfers.{writing, extent_view, refused_by, item_written, writes_by, IsOnText}
-use Rattle.pas_types.proofs.AsMany.{AsMany}
-use Rattle.pas_types.proofs.CallsAsMany.{call_many}
+use Rattle.pas_rules.proofs.AsMany.{AsMany}
+use Rattle.pas_rules.proofs.CallsAsMany.{call_many}
 use Rattle.pas_types.proofs.GatherLemmas.{line_at}
 use Rattle.pas_types.proofs.TransferItems.{bytes_item, bytes_many, written_many}
 use Rattle.pas_types.proofs.TransferParts.{carried, bytes_seen, call_words, closing, first_actual, others, first_words}

@@ -12,30 +12,31 @@ ghost use Rattle.pas_syntax.specs.ProgramViews.{labels_in, program_parameters_in
 ghost use Rattle.pas_syntax.specs.Words.{statements_words};
 ghost use Rattle.pas_typed.specs.Typed as typed;
 ghost use Rattle.pas_typed.specs.TypedViews.{statements_view};
-ghost use Rattle.pas_types.specs.Marks.{Judged as SpecJudged};
-ghost use Rattle.pas_types.specs.Declarations.{numerals_of, declared_labels};
-ghost use Rattle.pas_types.specs.Labels.{labels_of_list, labels_in_list};
-ghost use Rattle.pas_types.specs.Routines.{all_stand as all_labels_stand};
-ghost use Rattle.pas_types.specs.Statements as statement_spec;
-ghost use Rattle.pas_types.specs.Scopes.{contains};
-ghost use Rattle.pas_types.specs.Check as spec;
-ghost use Rattle.pas_types.specs.NameViews.{entity_view, with_name};
-ghost use Rattle.pas_types.specs.ScopeViews.{scopes_view, IsClear};
-ghost use Rattle.pas_types.specs.inner.Answers.{Settles};
-ghost use Rattle.pas_types.specs.inner.Declared.{IsDeclared};
+ghost use Rattle.pas_rules.specs.Marks.{Judged as SpecJudged};
+ghost use Rattle.pas_rules.specs.Declarations.{numerals_of, declared_labels};
+ghost use Rattle.pas_rules.specs.Labels.{labels_of_list, labels_in_list};
+ghost use Rattle.pas_rules.specs.Routines.{all_stand as all_labels_stand};
+ghost use Rattle.pas_rules.specs.Statements as statement_spec;
+ghost use Rattle.pas_rules.specs.Scopes.{contains};
+ghost use Rattle.pas_rules.specs.Check as spec;
+ghost use Rattle.pas_scopes.specs.NameViews.{entity_view};
+ghost use Rattle.pas_rules.specs.Scopes.{with_name};
+ghost use Rattle.pas_scopes.specs.ScopeViews.{scopes_view, IsClear};
+ghost use Rattle.pas_scopes.specs.Answers.{Settles};
+ghost use Rattle.pas_scopes.specs.DeclaredSoFar.{IsDeclared};
 ghost use Rattle.pas_types.specs.inner.LabelViews.{known_labels};
 ghost use Rattle.pas_types.specs.inner.Checking.{HasParameters, main_words, main_part, lacking, stop_at, IsWhole};
 ghost use Rattle.pas_types.specs.inner.Checking.{IsParameter, AreParameters, IsHeading};
 
 use crate::flow::Flow;
-use crate::globals::add_global;
 use crate::labels::{Labels, label_at_end};
-use crate::name_sets::NameSet;
-use crate::names::Entity;
-use crate::new_names::is_standard;
-use crate::scopes::{Scopes, idents_of};
 use crate::statements::statements_of;
-use crate::stop::{Stop, count_of, demand, fault};
+use pas_scopes::globals::add_global;
+use pas_scopes::name_sets::NameSet;
+use pas_scopes::names::Entity;
+use pas_scopes::new_names::is_standard;
+use pas_scopes::scopes::{Scopes, idents_of};
+use pas_scopes::stop::{Stop, count_of, demand, fault};
 use pas_syntax::tree::{
     Compound, Ident, Idents, Labels as LabelPart, Numeral, ProgramHead, ProgramTree, Separated,
 };

@@ -3,15 +3,15 @@ ghost use Rattle.std.specs.Prelude.{◌≡◌, ◌∷◌, [], ℕ, List, Some, N
 ghost use Rattle.pas_syntax.specs.Views.{numeral_in};
 ghost use Rattle.pas_syntax.specs.Words.{number_at};
 ghost use Rattle.pas_typed.specs.TypedViews.{statement_view};
-ghost use Rattle.pas_types.specs.Labels as rule;
-ghost use Rattle.pas_types.specs.ScopeViews.{scopes_view};
-ghost use Rattle.pas_types.specs.inner.Answers.{Settles};
+ghost use Rattle.pas_rules.specs.Labels as rule;
+ghost use Rattle.pas_scopes.specs.ScopeViews.{scopes_view};
+ghost use Rattle.pas_scopes.specs.Answers.{Settles};
 ghost use Rattle.pas_types.specs.inner.LabelViews.{goto_in};
 ghost use Rattle.pas_types.specs.inner.FlowViews.{IsFlow};
 
 use crate::labels::{Goto, Labels, goto_of};
-use crate::scopes::Scopes;
-use crate::stop::Stop;
+use pas_scopes::scopes::Scopes;
+use pas_scopes::stop::Stop;
 use pas_syntax::tree::Numeral;
 use pas_typed::typed::Statement;
 

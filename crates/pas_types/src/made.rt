@@ -4,7 +4,7 @@ ghost use Rattle.pas_typed.specs.Typed as typed;
 ghost use Rattle.pas_typed.specs.TypeViews.{type_view};
 ghost use Rattle.pas_typed.specs.TypedViews.{slot_view, place_view, value_view, statement_view, statements_view};
 ghost use Rattle.pas_typed.specs.TypedViews.{arms_view};
-ghost use Rattle.pas_types.specs.Statements.{list_of};
+ghost use Rattle.pas_rules.specs.Statements.{list_of};
 
 use pas_typed::typed::{Arms, Counted, Labelled, Place, Statement, Statements, Value};
 use pas_typed::types::PasType;

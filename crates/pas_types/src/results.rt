@@ -1,7 +1,7 @@
 //! Whether statements give a function its result (ISO 7185, 6.6.2).
 ghost use Rattle.std.specs.Prelude.{◌≡◌, ℕ, List};
 ghost use Rattle.pas_typed.specs.TypedViews.{statement_view, statements_view, arms_view};
-ghost use Rattle.pas_types.specs.Routines as spec;
+ghost use Rattle.pas_rules.specs.Routines as spec;
 
 use pas_typed::typed::{Arm, Labelled, Statement};
 

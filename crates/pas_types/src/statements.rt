@@ -10,27 +10,27 @@ ghost use Rattle.pas_syntax.specs.inner.StatementViews.{for_head_in};
 ghost use Rattle.pas_typed.specs.Typed as typed;
 ghost use Rattle.pas_typed.specs.TypeViews.{type_view};
 ghost use Rattle.pas_typed.specs.TypedViews.{slot_view, value_view, statement_view, statements_view};
-ghost use Rattle.pas_types.specs.Marks.{Judged as SpecJudged, unless, checked};
-ghost use Rattle.pas_types.specs.Scopes.{entity_of};
-ghost use Rattle.pas_types.specs.Expressions.{value_of as value_by};
-ghost use Rattle.pas_types.specs.Labels.{labels_in, labels_at, labels_in_list, labels_of_list};
-ghost use Rattle.pas_types.specs.Statements as spec;
-ghost use Rattle.pas_types.specs.ScopeViews.{scopes_view, IsClear};
-ghost use Rattle.pas_types.specs.inner.Answers.{end_in, EndsAs, Settles};
+ghost use Rattle.pas_rules.specs.Marks.{Judged as SpecJudged, unless, checked};
+ghost use Rattle.pas_rules.specs.Scopes.{entity_of};
+ghost use Rattle.pas_rules.specs.Expressions.{value_of as value_by};
+ghost use Rattle.pas_rules.specs.Labels.{labels_in, labels_at, labels_in_list, labels_of_list};
+ghost use Rattle.pas_rules.specs.Statements as spec;
+ghost use Rattle.pas_scopes.specs.ScopeViews.{scopes_view, IsClear};
+ghost use Rattle.pas_scopes.specs.Answers.{end_in, EndsAs, Settles};
 ghost use Rattle.pas_types.specs.inner.LabelViews.{spot_in};
 ghost use Rattle.pas_types.specs.inner.FlowViews.{Goes, IsPlain, IsStatement, IsListed, IsList, IsBlock, Precedes};
 
 use crate::assignments::assignment_of;
 use crate::calls::call_of;
 use crate::cases::{arms_of, case_of, line_behind, others_of, selector_of};
-use crate::expressions::value_of;
 use crate::flow::Flow;
-use crate::judged::Judged;
 use crate::labels::{Spot, label_of};
 use crate::made::{for_do, if_else, if_then, repeat, while_do};
-use crate::names::Entity;
-use crate::scopes::Scopes;
-use crate::stop::{Stop, before, demand, fault};
+use pas_scopes::expressions::value_of;
+use pas_scopes::judged::Judged;
+use pas_scopes::names::Entity;
+use pas_scopes::scopes::Scopes;
+use pas_scopes::stop::{Stop, before, demand, fault};
 use pas_syntax::tree::{
     Behind, Expr, ForHead, Guard, Ident, Plain, Statement as StatementTree,
     Statements as StatementsTree,

@@ -38,25 +38,25 @@ use Rattle.pas_typed.specs.TypedViews.{arm_view, arms_view}
 use Rattle.pas_typed.specs.TypedViews.{statement_view, statements_view, value_view, slot_view, labelled_view}
 use Rattle.pas_typed.proofs.StatementViews.{statement_view-Compound, labelled_view-roll, arm_view-roll}
 use Rattle.pas_types.specs.declared.flow.Flow.{Flow}
-use Rattle.pas_types.specs.declared.scopes.Scopes.{Scopes as CodeScopes}
-use Rattle.pas_types.specs.declared.stop.Stop.{Stop}
-use Rattle.pas_types.specs.Marks.{Judged, checked}
-use Rattle.pas_types.specs.Scopes.{Scopes}
-use Rattle.pas_types.specs.Labels.{Spot, in_list, elsewhere, label_faults, goto_of, labels_in, labels_at}
-use Rattle.pas_types.specs.Labels.{labels_in_list, labels_in_elements, labels_in_others, labels_of_list}
-use Rattle.pas_types.specs.Expressions.{ordinal_only, value_of}
-use Rattle.pas_types.specs.Statements.{plain_of, statement_of, statements_of, label_of, test_of, fits_slot}
-use Rattle.pas_types.specs.Statements.{constants_of, values_known, arms_of, others_of}
-use Rattle.pas_types.specs.ScopeViews.{scopes_view}
-use Rattle.pas_types.specs.inner.Ends.{lowest_of}
-use Rattle.pas_types.specs.inner.Stopping.{found_before}
-use Rattle.pas_types.specs.inner.Answers.{stands_at, Means, ShowsBy, Settles}
+use Rattle.pas_scopes.specs.declared.scopes.Scopes.{Scopes as CodeScopes}
+use Rattle.pas_scopes.specs.declared.stop.Stop.{Stop}
+use Rattle.pas_rules.specs.Marks.{Judged, checked}
+use Rattle.pas_rules.specs.Scopes.{Scopes}
+use Rattle.pas_rules.specs.Labels.{Spot, in_list, elsewhere, label_faults, goto_of, labels_in, labels_at}
+use Rattle.pas_rules.specs.Labels.{labels_in_list, labels_in_elements, labels_in_others, labels_of_list}
+use Rattle.pas_rules.specs.Expressions.{ordinal_only, value_of}
+use Rattle.pas_rules.specs.Statements.{plain_of, statement_of, statements_of, label_of, test_of, fits_slot}
+use Rattle.pas_rules.specs.Statements.{constants_of, values_known, arms_of, others_of}
+use Rattle.pas_scopes.specs.ScopeViews.{scopes_view}
+use Rattle.pas_scopes.specs.Ends.{lowest_of}
+use Rattle.pas_scopes.specs.Stopping.{found_before}
+use Rattle.pas_scopes.specs.Answers.{stands_at, Means, ShowsBy, Settles}
 use Rattle.pas_types.specs.inner.LabelViews.{Known, spot_in, standing_faults}
 use Rattle.pas_types.specs.inner.CaseViews.{arm_part, arm_words, others_view, behind_elements}
 use Rattle.pas_types.specs.inner.FlowViews.{IsFlow, IsPlain, listed_statement, ShowsBefore}
-use Rattle.pas_types.proofs.AnswerLemmas.{before_found}
+use Rattle.pas_scopes.proofs.AnswerLemmas.{before_found}
 use Rattle.pas_types.proofs.LabelRules.{standing_known}
-use Rattle.pas_types.proofs.LabelSeen.{list_seen, taken_all}
+use Rattle.pas_scopes.proofs.LabelSeen.{list_seen, taken_all}
 use Rattle.pas_types.proofs.ChainLemmas.{made_of}
 use Rattle.pas_types.proofs.PlainSeen.{called_seen, if_seen, if_else_seen, case_seen, while_seen, repeat_seen}
 use Rattle.pas_types.proofs.PlainSeen.{for_seen}
@@ -65,7 +65,7 @@ use Rattle.pas_types.proofs.StatementLists.{IsSoFar, first_so_far, next_so_far, 
 use Rattle.pas_types.proofs.StatementLists.{list_stops}
 use Rattle.pas_types.proofs.StatementParts.{label_stops, label_settles, goto_settles, choice_stops}
 use Rattle.pas_types.proofs.StatementParts.{choice_one_stops, choice_other_stops, choice_means}
-use Rattle.pas_types.proofs.SettleLemmas.{settles_stop, found_means, found_stops}
+use Rattle.pas_scopes.proofs.SettleLemmas.{settles_stop, found_means, found_stops}
 use Rattle.pas_types.proofs.FlowLemmas.{enters, leaves, stands, regroup}
 use Rattle.pas_types.proofs.StatementParts.{compound_stops, compound_means, if_stops, if_part_stops, if_means}
 use Rattle.pas_types.proofs.StatementParts.{while_stops, while_part_stops, while_means, repeat_stops}

@@ -8,17 +8,17 @@ use Rattle.pas_syntax.specs.Words.{Word, at, words_if, labels_words, rows_words,
 use Rattle.pas_typed.specs.declared.typed.Labelled as code_labelled
 use Rattle.pas_typed.specs.declared.typed.Body.{Body as CodeBody}
 use Rattle.pas_typed.specs.Typed as typed
-use Rattle.pas_types.specs.declared.scopes.KnownRoutine.{KnownRoutine as CodeRoutine}
-use Rattle.pas_types.specs.declared.scopes.Scopes.{Scopes as CodeScopes}
-use Rattle.pas_types.specs.declared.stop.Stop.{Stop}
-use Rattle.pas_types.specs.Marks.{Marks, quiet, shows, joined, Judged, known}
-use Rattle.pas_types.specs.Scopes.{Scopes, Outer}
-use Rattle.pas_types.specs.Labels.{labels_of_list}
-use Rattle.pas_types.specs.Statements.{statements_of}
-use Rattle.pas_types.specs.Declarations.{declared_labels, label_marks, routine_scopes, local_rows, InnerStage}
-use Rattle.pas_types.specs.Routines.{Sort, label_missing, result_missing, inner_of, with_body, body_made, RoutineStage}
-use Rattle.pas_types.specs.ScopeViews.{outer_view}
-use Rattle.pas_types.specs.inner.Answers.{IsQuiet, FailsBy}
+use Rattle.pas_scopes.specs.declared.scopes.KnownRoutine.{KnownRoutine as CodeRoutine}
+use Rattle.pas_scopes.specs.declared.scopes.Scopes.{Scopes as CodeScopes}
+use Rattle.pas_scopes.specs.declared.stop.Stop.{Stop}
+use Rattle.pas_rules.specs.Marks.{Marks, quiet, shows, joined, Judged, known}
+use Rattle.pas_rules.specs.Scopes.{Scopes, Outer}
+use Rattle.pas_rules.specs.Labels.{labels_of_list}
+use Rattle.pas_rules.specs.Statements.{statements_of}
+use Rattle.pas_rules.specs.Declarations.{declared_labels, label_marks, routine_scopes, local_rows, InnerStage}
+use Rattle.pas_rules.specs.Routines.{Sort, label_missing, result_missing, inner_of, with_body, body_made, RoutineStage}
+use Rattle.pas_scopes.specs.ScopeViews.{outer_view}
+use Rattle.pas_scopes.specs.Answers.{IsQuiet, FailsBy}
 use Rattle.pas_types.specs.inner.RoutineAnswers.{IsReady}
 
 -- the routine with this number, of which no scope waits any longer

@@ -14,15 +14,15 @@ use Rattle.pas_typed.specs.Typed.{Value, Arms}
 use Rattle.pas_typed.specs.TypeViews.{base_view}
 use Rattle.pas_typed.specs.TypedViews.{statement_view, arm_view, arms_view}
 use Rattle.pas_types.specs.declared.flow.Flow.{Flow}
-use Rattle.pas_types.specs.declared.scopes.Scopes.{Scopes as CodeScopes}
-use Rattle.pas_types.specs.declared.stop.Stop.{Stop}
-use Rattle.pas_types.specs.Marks.{Judged, judged, quiet, joined, known, both, checked}
-use Rattle.pas_types.specs.Scopes.{Scopes}
-use Rattle.pas_types.specs.TypeForms.{constant_of}
-use Rattle.pas_types.specs.Labels.{elsewhere}
-use Rattle.pas_types.specs.Statements.{fits_case, constants_of, statement_of, arms_of, others_of}
-use Rattle.pas_types.specs.ScopeViews.{scopes_view, IsClear}
-use Rattle.pas_types.specs.inner.Answers.{FailsBy, Means, Settles}
+use Rattle.pas_scopes.specs.declared.scopes.Scopes.{Scopes as CodeScopes}
+use Rattle.pas_scopes.specs.declared.stop.Stop.{Stop}
+use Rattle.pas_rules.specs.Marks.{Judged, judged, quiet, joined, known, both, checked}
+use Rattle.pas_rules.specs.Scopes.{Scopes}
+use Rattle.pas_rules.specs.TypeForms.{constant_of}
+use Rattle.pas_rules.specs.Labels.{elsewhere}
+use Rattle.pas_rules.specs.Statements.{fits_case, constants_of, statement_of, arms_of, others_of}
+use Rattle.pas_scopes.specs.ScopeViews.{scopes_view, IsClear}
+use Rattle.pas_scopes.specs.Answers.{FailsBy, Means, Settles}
 use Rattle.pas_types.specs.inner.FlowViews.{IsFlow, Precedes}
 
 -- what is answered of a part behind which nothing is missing

@@ -8,15 +8,15 @@ use Rattle.pas_syntax.specs.Tree.{Ident, Idents, ProgramParameters, Compound}
 use Rattle.pas_syntax.specs.Words.{Word, at, name_at, words_if, idents_words, program_parameters_words, compound_words}
 use Rattle.pas_typed.specs.Typed.{global}
 use Rattle.pas_typed.specs.TypedViews.{variable_view}
-use Rattle.pas_types.specs.declared.scopes.Scopes.{Scopes as CodeScopes}
-use Rattle.pas_types.specs.declared.stop.Stop.{Stop}
-use Rattle.pas_types.specs.declared.stop.Stop.TheVariants as stop
-use Rattle.pas_types.specs.Marks.{quiet, shows, joined, listed, unless, Judged, judged}
-use Rattle.pas_types.specs.Scopes.{Outer, contains, idents_of, entity_in}
-use Rattle.pas_types.specs.Declarations.{named_slots}
-use Rattle.pas_types.specs.Check.{standard_variables, parameter_faults, each_parameter, parameter_marks}
-use Rattle.pas_types.specs.inner.Stopping.{shown_in, demanded}
-use Rattle.pas_types.specs.inner.Answers.{IsQuiet, Means, FailsBy}
+use Rattle.pas_scopes.specs.declared.scopes.Scopes.{Scopes as CodeScopes}
+use Rattle.pas_scopes.specs.declared.stop.Stop.{Stop}
+use Rattle.pas_scopes.specs.declared.stop.Stop.TheVariants as stop
+use Rattle.pas_rules.specs.Marks.{quiet, shows, joined, listed, unless, Judged, judged}
+use Rattle.pas_rules.specs.Scopes.{Outer, contains, idents_of, entity_in}
+use Rattle.pas_rules.specs.Declarations.{named_slots}
+use Rattle.pas_rules.specs.Check.{standard_variables, parameter_faults, each_parameter, parameter_marks}
+use Rattle.pas_scopes.specs.Stopping.{shown_in, demanded}
+use Rattle.pas_scopes.specs.Answers.{IsQuiet, Means, FailsBy}
 
 -- the parameters of a program, and its variables before all declarations
 pub record HasParameters (parameters : List (List ℕ)) (scopes : CodeScopes) : Type 0 where

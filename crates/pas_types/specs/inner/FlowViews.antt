@@ -8,15 +8,15 @@ use Rattle.pas_typed.specs.declared.typed.Labelled as code_labelled
 use Rattle.pas_typed.specs.Typed as typed
 use Rattle.pas_typed.specs.TypedViews.{statement_view, labelled_view, statements_view}
 use Rattle.pas_types.specs.declared.flow.Flow.{Flow}
-use Rattle.pas_types.specs.declared.scopes.Scopes.{Scopes as CodeScopes}
-use Rattle.pas_types.specs.declared.stop.Stop.{Stop}
-use Rattle.pas_types.specs.Marks.{Marks, Judged, judged, known}
-use Rattle.pas_types.specs.Scopes.{Outer, Inner, Scopes}
-use Rattle.pas_types.specs.Labels.{Spot, in_list, block_labels, labels_of_list}
-use Rattle.pas_types.specs.Statements.{label_of, plain_of, statement_of, statements_of}
-use Rattle.pas_types.specs.ScopeViews.{scopes_view, IsClear}
-use Rattle.pas_types.specs.inner.Stopping.{stop_before}
-use Rattle.pas_types.specs.inner.Answers.{Means, ShowsBy, Settles}
+use Rattle.pas_scopes.specs.declared.scopes.Scopes.{Scopes as CodeScopes}
+use Rattle.pas_scopes.specs.declared.stop.Stop.{Stop}
+use Rattle.pas_rules.specs.Marks.{Marks, Judged, judged, known}
+use Rattle.pas_rules.specs.Scopes.{Outer, Inner, Scopes}
+use Rattle.pas_rules.specs.Labels.{Spot, in_list, block_labels, labels_of_list}
+use Rattle.pas_rules.specs.Statements.{label_of, plain_of, statement_of, statements_of}
+use Rattle.pas_scopes.specs.ScopeViews.{scopes_view, IsClear}
+use Rattle.pas_scopes.specs.Stopping.{stop_before}
+use Rattle.pas_scopes.specs.Answers.{Means, ShowsBy, Settles}
 use Rattle.pas_types.specs.inner.LabelViews.{Known, numbers_of, known_labels}
 
 -- in a routine the labels of the program stand beside its own

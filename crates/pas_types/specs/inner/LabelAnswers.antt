@@ -3,11 +3,11 @@ use Rattle.std.specs.Prelude.{◌≡◌, ℕ, false, [], ◌∷◌, map, Option,
 use Rattle.pas_tokens.specs.declared.kinds.Kind.TheVariants as k
 use Rattle.pas_syntax.specs.Tree.{Numeral, Separated, Labels}
 use Rattle.pas_syntax.specs.Words.{number_at, separated, words_if, labels_words}
-use Rattle.pas_types.specs.declared.stop.Stop.{Stop}
+use Rattle.pas_scopes.specs.declared.stop.Stop.{Stop}
 use Rattle.pas_types.specs.declared.labels.Label.{Label}
-use Rattle.pas_types.specs.Marks.{shows, listed}
-use Rattle.pas_types.specs.Declarations.{numerals_of, declared_labels, new_label, each_label, label_marks}
-use Rattle.pas_types.specs.inner.Answers.{FailsBy, IsQuiet}
+use Rattle.pas_rules.specs.Marks.{shows, listed}
+use Rattle.pas_rules.specs.Declarations.{numerals_of, declared_labels, new_label, each_label, label_marks}
+use Rattle.pas_scopes.specs.Answers.{FailsBy, IsQuiet}
 use Rattle.pas_types.specs.inner.LabelViews.{Known, numbers_of, known_labels}
 
 -- a label that stands nowhere yet

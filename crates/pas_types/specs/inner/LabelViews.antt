@@ -5,15 +5,15 @@ use Rattle.std.specs.List.{list_all}
 use Rattle.std.specs.Map.{lookup}
 use Rattle.wb_base.specs.declared.faults.TheConstants.{CONSTANT_OUT_OF_RANGE, WRONG_LABEL, WRONG_GOTO}
 use Rattle.pas_tokens.specs.Cutting.{Wrong, wrong}
-use Rattle.pas_types.specs.declared.limits.TheConstants.{GREATEST_LABEL}
+use Rattle.pas_rules.specs.declared.limits.TheConstants.{GREATEST_LABEL}
 use Rattle.pas_types.specs.declared.labels.Label.{Label}
 use Rattle.pas_types.specs.declared.labels.Spot.{Spot as CodeSpot}
 use Rattle.pas_types.specs.declared.labels.Spot.TheVariants as code
 use Rattle.pas_types.specs.declared.labels.Goto.{Goto}
 use Rattle.pas_types.specs.declared.labels.Goto.TheVariants as goto
 use Rattle.pas_typed.specs.Typed as typed
-use Rattle.pas_types.specs.Marks.{unless, Judged, means, refuses}
-use Rattle.pas_types.specs.Labels.{has_label, Spot, in_list, elsewhere, is_in_list, is_last, to_list}
+use Rattle.pas_rules.specs.Marks.{unless, Judged, means, refuses}
+use Rattle.pas_rules.specs.Labels.{has_label, Spot, in_list, elsewhere, is_in_list, is_last, to_list}
 
 abbrev pub spot_in : CodeSpot → Spot
 spot_in code.InList = in_list

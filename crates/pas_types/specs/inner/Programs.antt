@@ -8,17 +8,17 @@ use Rattle.pas_syntax.specs.Words.{variable_row_words, routine_words}
 use Rattle.pas_typed.specs.declared.typed.Body.{Body as CodeBody}
 use Rattle.pas_typed.specs.Typed.{Statements, TypedProgram}
 use Rattle.pas_typed.specs.TypedViews.{body_view}
-use Rattle.pas_types.specs.declared.scopes.Scopes.{Scopes as CodeScopes}
-use Rattle.pas_types.specs.declared.stop.Stop.{Stop}
-use Rattle.pas_types.specs.declared.stop.Stop.TheVariants as stop
-use Rattle.pas_types.specs.Declarations.{declared_labels, label_marks, Stage, rows_of, constant_row, type_row}
-use Rattle.pas_types.specs.Declarations.{global_row, program_scopes}
-use Rattle.pas_types.specs.Labels.{labels_of_list}
-use Rattle.pas_types.specs.Statements.{statements_of}
-use Rattle.pas_types.specs.Routines.{RoutineStage, routines_of}
-use Rattle.pas_types.specs.Check.{start, fault_of, Means, IsFaultOf}
-use Rattle.pas_types.specs.ScopeViews.{outer_view}
-use Rattle.pas_types.specs.inner.Declared.{Notes}
+use Rattle.pas_scopes.specs.declared.scopes.Scopes.{Scopes as CodeScopes}
+use Rattle.pas_scopes.specs.declared.stop.Stop.{Stop}
+use Rattle.pas_scopes.specs.declared.stop.Stop.TheVariants as stop
+use Rattle.pas_rules.specs.Declarations.{declared_labels, label_marks, Stage, rows_of, constant_row, type_row}
+use Rattle.pas_rules.specs.Declarations.{global_row, program_scopes}
+use Rattle.pas_rules.specs.Labels.{labels_of_list}
+use Rattle.pas_rules.specs.Statements.{statements_of}
+use Rattle.pas_rules.specs.Routines.{RoutineStage, routines_of}
+use Rattle.pas_rules.specs.Check.{start, fault_of, Means, IsFaultOf}
+use Rattle.pas_scopes.specs.ScopeViews.{outer_view}
+use Rattle.pas_scopes.specs.DeclaredSoFar.{Notes}
 use Rattle.pas_types.specs.inner.LabelViews.{Known, known_labels}
 use Rattle.pas_types.specs.inner.RoutineAnswers.{IsBehind}
 

@@ -5,12 +5,11 @@ use Rattle.std.specs.Option.{option_copied}
 use Rattle.wb_base.specs.declared.faults.Fault.{Fault}
 use Rattle.wb_base.specs.declared.faults.TheConstants.{DUPLICATE_NAME, TOO_LARGE}
 use Rattle.pas_tokens.specs.Cutting.{Wrong, wrong}
-use Rattle.pas_tokens.specs.declared.kinds.Kind.TheVariants as k
 use Rattle.pas_syntax.specs.Tree.{Ident, Behind, TypeName}
 use Rattle.pas_syntax.specs.declared.tree.Ident.{Ident as CodeIdent}
 use Rattle.pas_syntax.specs.Views.{spelled_in, ident_in, behind_in, if_there}
 use Rattle.pas_syntax.specs.ProgramViews.{parameters_in, type_name_in}
-use Rattle.pas_syntax.specs.Words.{Word, at, name_at, words_if, parameters_words, result_words}
+use Rattle.pas_syntax.specs.Words.{Word, name_at}
 use Rattle.pas_typed.specs.declared.types.PasType.{PasType as CodePasType}
 use Rattle.pas_typed.specs.declared.typed.Body.{Body as CodeBody}
 use Rattle.pas_typed.specs.Types.{PasType, Made}
@@ -18,21 +17,21 @@ use Rattle.pas_typed.specs.TypedViews.{body_view}
 use Rattle.pas_types.specs.declared.headings.Sort.{Sort as CodeSort}
 use Rattle.pas_types.specs.declared.headings.Sort.TheVariants as code_sort
 use Rattle.pas_types.specs.declared.headings.HeadingParts.{HeadingParts as CodeParts}
-use Rattle.pas_types.specs.declared.limits.TheConstants.{ROUTINE_LIMIT}
-use Rattle.pas_types.specs.declared.scopes.Inner.{Inner as CodeInner}
-use Rattle.pas_types.specs.declared.scopes.KnownRoutine.{KnownRoutine as CodeRoutine}
-use Rattle.pas_types.specs.declared.scopes.Scopes.{Scopes as CodeScopes}
-use Rattle.pas_types.specs.declared.stop.Stop.{Stop}
-use Rattle.pas_types.specs.Marks.{Marks, shows, joined, unless, Judged}
-use Rattle.pas_types.specs.Scopes.{routine, Outer, contains, entity_in}
-use Rattle.pas_types.specs.Declarations.{taken}
-use Rattle.pas_types.specs.Routines.{Sort, procedure, function, HeadingParts, Formal, HeadingStage, RoutineStage}
-use Rattle.pas_types.specs.Check.{parameter_faults}
-use Rattle.pas_types.specs.NameViews.{with_new}
-use Rattle.pas_types.specs.ScopeViews.{outer_view, scopes_view, IsClear}
-use Rattle.pas_types.specs.inner.Answers.{IsQuiet, Means, FailsBy}
-use Rattle.pas_types.specs.inner.Declared.{IsDeclared, Notes}
-use Rattle.pas_types.specs.inner.Locals.{IsLawful, Leaves}
+use Rattle.pas_rules.specs.declared.limits.TheConstants.{ROUTINE_LIMIT}
+use Rattle.pas_scopes.specs.declared.scopes.Inner.{Inner as CodeInner}
+use Rattle.pas_scopes.specs.declared.scopes.KnownRoutine.{KnownRoutine as CodeRoutine}
+use Rattle.pas_scopes.specs.declared.scopes.Scopes.{Scopes as CodeScopes}
+use Rattle.pas_scopes.specs.declared.stop.Stop.{Stop}
+use Rattle.pas_rules.specs.Marks.{Marks, shows, joined, unless, Judged}
+use Rattle.pas_rules.specs.Scopes.{routine, Outer, contains, entity_in}
+use Rattle.pas_rules.specs.Declarations.{taken}
+use Rattle.pas_rules.specs.Routines.{Sort, procedure, function, HeadingParts, Formal, HeadingStage, RoutineStage}
+use Rattle.pas_rules.specs.Check.{parameter_faults}
+use Rattle.pas_rules.specs.Scopes.{with_new}
+use Rattle.pas_scopes.specs.ScopeViews.{outer_view, scopes_view, IsClear}
+use Rattle.pas_scopes.specs.Answers.{IsQuiet, Means, FailsBy}
+use Rattle.pas_scopes.specs.DeclaredSoFar.{IsDeclared, Notes}
+use Rattle.pas_scopes.specs.Locals.{IsLawful, Leaves}
 
 -- the parts of a heading as the definition has them
 abbrev pub sort_view : CodeSort → Sort
@@ -46,14 +45,6 @@ parts_in spellings parts = record {
   parameters = if_there (parameters_in spellings) (option_copied parts.parameters);
   result = if_there (behind_in (type_name_in spellings)) parts.result;
 }
-
--- the words of a heading behind its name, with the semicolon in this line, and all of them, of which this is the first
-abbrev pub rest_words : HeadingParts → ℕ → List Word
-rest_words head line =
-    words_if parameters_words head.parameters ++ (words_if result_words head.result ++ at 0 k.Semicolon line ∷ [])
-
-abbrev pub parts_words : Word → HeadingParts → ℕ → List Word
-parts_words word head line = word ∷ (name_at 0 head.name ∷ rest_words head line)
 
 -- what is answered of parameters of a routine: their words show nothing, their types are known, and the scopes behind
 -- them are these, or why checking stops in them

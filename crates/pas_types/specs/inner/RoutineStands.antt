@@ -6,12 +6,12 @@ use Rattle.pas_syntax.specs.Words.{Word}
 use Rattle.pas_typed.specs.declared.typed.Body.{Body as CodeBody}
 use Rattle.pas_typed.specs.Types.{Table}
 use Rattle.pas_typed.specs.TypedViews.{body_view}
-use Rattle.pas_types.specs.declared.scopes.Scopes.{Scopes as CodeScopes}
-use Rattle.pas_types.specs.Scopes.{Entity, variable, routine, unclear, Named, Outer, entity_in}
-use Rattle.pas_types.specs.Routines.{RoutineStage}
-use Rattle.pas_types.specs.NameViews.{with_new}
-use Rattle.pas_types.specs.ScopeViews.{outer_view}
-use Rattle.pas_types.specs.inner.Declared.{IsHeld, AreFiled, IsCounted, Notes}
+use Rattle.pas_scopes.specs.declared.scopes.Scopes.{Scopes as CodeScopes}
+use Rattle.pas_rules.specs.Scopes.{Entity, variable, routine, unclear, Named, Outer, entity_in}
+use Rattle.pas_rules.specs.Routines.{RoutineStage}
+use Rattle.pas_rules.specs.Scopes.{with_new}
+use Rattle.pas_scopes.specs.ScopeViews.{outer_view}
+use Rattle.pas_scopes.specs.DeclaredSoFar.{IsHeld, AreFiled, IsCounted, Notes}
 use Rattle.pas_types.specs.inner.RoutineAnswers.{IsReady}
 
 -- what a name stands for, as far as it may be that of a file of the program

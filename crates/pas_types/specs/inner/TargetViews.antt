@@ -3,7 +3,7 @@ use Rattle.pas_typed.specs.TypeViews.{type_view}
 use Rattle.pas_typed.specs.TypedViews.{place_view}
 use Rattle.pas_types.specs.declared.assignments.Target.{Target as CodeTarget}
 use Rattle.pas_types.specs.declared.assignments.Target.TheVariants as code
-use Rattle.pas_types.specs.Statements.{Target, place, result}
+use Rattle.pas_rules.specs.Statements.{Target, place, result}
 
 abbrev pub target_view : CodeTarget → Target
 target_view (code.Place found) = place (place_view found)

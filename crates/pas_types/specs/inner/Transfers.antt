@@ -14,21 +14,21 @@ use Rattle.pas_typed.specs.TypedViews.{place_view}
 use Rattle.pas_typed.specs.Typed as typed
 use Rattle.pas_typed.specs.Typed.{Slot, Value, Place, Item, Statement}
 use Rattle.pas_typed.specs.Texts.{undoubled}
-use Rattle.pas_types.specs.declared.stop.Stop.{Stop}
-use Rattle.pas_types.specs.declared.stop.Stop.TheVariants as stop
-use Rattle.pas_types.specs.declared.stop.Wrong.{Wrong as CodeWrong}
+use Rattle.pas_scopes.specs.declared.stop.Stop.{Stop}
+use Rattle.pas_scopes.specs.declared.stop.Stop.TheVariants as stop
+use Rattle.pas_scopes.specs.declared.stop.Wrong.{Wrong as CodeWrong}
 use Rattle.pas_types.specs.declared.transfers.Extent.{Extent as CodeExtent}
 use Rattle.pas_types.specs.declared.transfers.Extent.TheVariants as code
-use Rattle.pas_types.specs.declared.judged.Judged.{Judged as CodeJudged}
+use Rattle.pas_scopes.specs.declared.judged.Judged.{Judged as CodeJudged}
 use Rattle.pas_typed.specs.Types.{Table, PasType}
 use Rattle.pas_syntax.specs.Words.{Word}
-use Rattle.pas_types.specs.inner.Answers.{end_in, EndsAs}
-use Rattle.pas_types.specs.Marks.{quiet, Judged, judged, known, both, joined, checked}
-use Rattle.pas_types.specs.Scopes.{Scopes, Procedure, read, readln, write, writeln}
-use Rattle.pas_types.specs.Expressions.{Demand, place_in, met}
-use Rattle.pas_types.specs.Calls.{Extent, items_alone, whole_line, no_width, whole_file, Actual, actual_of}
-use Rattle.pas_types.specs.Calls.{component_demand, without_width, item_on_text, width_value, is_text, text_in}
-use Rattle.pas_types.specs.inner.Stopping.{wrong_in, shown_in}
+use Rattle.pas_scopes.specs.Answers.{end_in, EndsAs}
+use Rattle.pas_rules.specs.Marks.{quiet, Judged, judged, known, both, joined, checked}
+use Rattle.pas_rules.specs.Scopes.{Scopes, Procedure, read, readln, write, writeln}
+use Rattle.pas_rules.specs.Expressions.{Demand, place_in, met}
+use Rattle.pas_rules.specs.Calls.{Extent, items_alone, whole_line, no_width, whole_file, Actual, actual_of}
+use Rattle.pas_rules.specs.Calls.{component_demand, without_width, item_on_text, width_value, is_text, text_in}
+use Rattle.pas_scopes.specs.Stopping.{wrong_in, shown_in}
 
 abbrev pub extent_view : CodeExtent → Extent
 extent_view code.ItemsAlone = items_alone

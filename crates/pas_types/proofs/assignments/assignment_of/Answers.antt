@@ -11,15 +11,15 @@ use Rattle.pas_typed.specs.Typed as typed
 use Rattle.pas_typed.specs.Typed.{Value}
 use Rattle.pas_typed.specs.TypedViews.{value_view, statement_view}
 use Rattle.pas_types.specs.declared.assignments.Target.{Target as CodeTarget}
-use Rattle.pas_types.specs.Marks.{checked, unless}
-use Rattle.pas_types.specs.Scopes.{Scopes}
-use Rattle.pas_types.specs.Expressions.{value_of}
-use Rattle.pas_types.specs.Statements.{Target, target_of, fits_target, assigned, assignment_of}
-use Rattle.pas_types.specs.ScopeViews.{scopes_view}
-use Rattle.pas_types.specs.inner.Answers.{Means}
+use Rattle.pas_rules.specs.Marks.{checked, unless}
+use Rattle.pas_rules.specs.Scopes.{Scopes}
+use Rattle.pas_rules.specs.Expressions.{value_of}
+use Rattle.pas_rules.specs.Statements.{Target, target_of, fits_target, assigned, assignment_of}
+use Rattle.pas_scopes.specs.ScopeViews.{scopes_view}
+use Rattle.pas_scopes.specs.Answers.{Means}
 use Rattle.pas_types.specs.inner.TargetViews.{target_view}
-use Rattle.pas_types.proofs.AnswerLemmas.{checked_stops_by}
-use Rattle.pas_types.proofs.SettleLemmas.{settles_stop, settles_why}
+use Rattle.pas_scopes.proofs.AnswerLemmas.{checked_stops_by}
+use Rattle.pas_scopes.proofs.SettleLemmas.{settles_stop, settles_why}
 use Rattle.pas_types.proofs.TargetLemmas.{target_stops, value_stops, assignment_means}
 use Rattle.pas_types.proofs.assignments.assignment_of.Goals as goal
 

@@ -7,14 +7,14 @@ use Rattle.pas_syntax.specs.Views.{variable_in}
 use Rattle.pas_syntax.specs.Words.{Word, variable_words}
 use Rattle.pas_typed.specs.TypeViews.{table_view}
 use Rattle.pas_types.specs.declared.assignments.Target.{Target as CodeTarget}
-use Rattle.pas_types.specs.declared.stop.Stop.{Stop}
-use Rattle.pas_types.specs.Marks.{Judged, checked, unless}
-use Rattle.pas_types.specs.Statements.{Target, target_of, assigned_only}
-use Rattle.pas_types.specs.ScopeViews.{scopes_view}
-use Rattle.pas_types.specs.inner.Answers.{end_in, settled_by}
+use Rattle.pas_scopes.specs.declared.stop.Stop.{Stop}
+use Rattle.pas_rules.specs.Marks.{Judged, checked, unless}
+use Rattle.pas_rules.specs.Statements.{Target, target_of, assigned_only}
+use Rattle.pas_scopes.specs.ScopeViews.{scopes_view}
+use Rattle.pas_scopes.specs.Answers.{end_in, settled_by}
 use Rattle.pas_types.specs.inner.TargetViews.{target_view}
-use Rattle.pas_types.proofs.AnswerLemmas.{checked_stops_by}
-use Rattle.pas_types.proofs.SettleLemmas.{settles_checked}
+use Rattle.pas_scopes.proofs.AnswerLemmas.{checked_stops_by}
+use Rattle.pas_scopes.proofs.SettleLemmas.{settles_checked}
 use Rattle.pas_types.proofs.ChainLemmas.{preceded}
 use Rattle.pas_types.proofs.TargetLemmas.{stops_before, precedes_stop}
 use Rattle.pas_types.proofs.assignments.lawful_target.Goals as goal

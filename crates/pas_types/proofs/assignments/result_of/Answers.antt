@@ -2,11 +2,11 @@ use Rattle.std.proofs.Common.{refl, ap, subst, [], ◌∷◌, option_map}
 use Rattle.pas_syntax.specs.Views.{ident_in}
 use Rattle.pas_syntax.specs.Words.{Word, name_at}
 use Rattle.pas_typed.specs.TypeViews.{type_view}
-use Rattle.pas_types.specs.Marks.{Judged}
-use Rattle.pas_types.specs.Scopes.{Inner}
-use Rattle.pas_types.specs.Statements.{Target}
-use Rattle.pas_types.specs.ScopeViews.{scopes_view, inner_view}
-use Rattle.pas_types.specs.inner.Answers.{Answers}
+use Rattle.pas_rules.specs.Marks.{Judged}
+use Rattle.pas_rules.specs.Scopes.{Inner}
+use Rattle.pas_rules.specs.Statements.{Target}
+use Rattle.pas_scopes.specs.ScopeViews.{scopes_view, inner_view}
+use Rattle.pas_scopes.specs.Answers.{Answers}
 use Rattle.pas_types.specs.inner.TargetViews.{target_view}
 use Rattle.pas_types.proofs.FlowLemmas.{own_routine}
 use Rattle.pas_types.proofs.assignments.result_of.Goals as goal

@@ -1,12 +1,12 @@
 use Rattle.std.proofs.Common.{◌≡◌, sym, ap, subst, ◌∙◌, [], ◌∷◌, Option, Some, option_map}
 use Rattle.pas_syntax.specs.Views.{ident_in}
 use Rattle.pas_syntax.specs.Words.{Word, name_at}
-use Rattle.pas_types.specs.declared.names.Entity.{Entity as CodeEntity}
-use Rattle.pas_types.specs.Scopes.{Entity, entity_of, routine}
-use Rattle.pas_types.specs.Statements.{target_named}
-use Rattle.pas_types.specs.NameViews.{entity_view}
-use Rattle.pas_types.specs.ScopeViews.{scopes_view}
-use Rattle.pas_types.specs.inner.Answers.{Answers}
+use Rattle.pas_scopes.specs.declared.names.Entity.{Entity as CodeEntity}
+use Rattle.pas_rules.specs.Scopes.{Entity, entity_of, routine}
+use Rattle.pas_rules.specs.Statements.{target_named}
+use Rattle.pas_scopes.specs.NameViews.{entity_view}
+use Rattle.pas_scopes.specs.ScopeViews.{scopes_view}
+use Rattle.pas_scopes.specs.Answers.{Answers}
 use Rattle.pas_types.specs.inner.TargetViews.{target_view}
 use Rattle.pas_types.proofs.assignments.target_named.Goals as goal
 

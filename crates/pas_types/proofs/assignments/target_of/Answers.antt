@@ -5,14 +5,14 @@ use Rattle.pas_syntax.specs.Tree.{Variable}
 use Rattle.pas_syntax.specs.Views.{variable_in}
 use Rattle.pas_syntax.specs.Words.{variable_words}
 use Rattle.pas_typed.specs.TypedViews.{place_view}
-use Rattle.pas_types.specs.Marks.{Judged}
-use Rattle.pas_types.specs.Scopes.{Scopes}
-use Rattle.pas_types.specs.Expressions.{place_of}
-use Rattle.pas_types.specs.Statements.{Target, place, target_of}
-use Rattle.pas_types.specs.ScopeViews.{scopes_view}
-use Rattle.pas_types.specs.inner.Answers.{end_in, EndsAs, Answers, StopsBy}
+use Rattle.pas_rules.specs.Marks.{Judged}
+use Rattle.pas_rules.specs.Scopes.{Scopes}
+use Rattle.pas_rules.specs.Expressions.{place_of}
+use Rattle.pas_rules.specs.Statements.{Target, place, target_of}
+use Rattle.pas_scopes.specs.ScopeViews.{scopes_view}
+use Rattle.pas_scopes.specs.Answers.{end_in, EndsAs, Answers, StopsBy}
 use Rattle.pas_types.specs.inner.TargetViews.{target_view}
-use Rattle.pas_types.proofs.AnswerLemmas.{answers_stop, made_ends, made_stops}
+use Rattle.pas_scopes.proofs.AnswerLemmas.{answers_stop, made_ends, made_stops}
 use Rattle.pas_types.proofs.TargetLemmas.{part_target, name_alone}
 use Rattle.pas_types.proofs.assignments.target_of.Goals as goal
 

@@ -8,15 +8,15 @@ use Rattle.pas_syntax.specs.Tree.{Labels, Rows, VariableRow, Compound}
 use Rattle.pas_syntax.specs.Views.{if_there}
 use Rattle.pas_syntax.specs.ProgramViews.{labels_in, variable_row_in, rows_in, compound_in}
 use Rattle.pas_typed.specs.TypedViews.{body_view}
-use Rattle.pas_types.specs.declared.scopes.Scopes.{Scopes as CodeScopes}
-use Rattle.pas_types.specs.declared.stop.Stop.{Stop}
-use Rattle.pas_types.specs.Declarations.{declared_labels}
-use Rattle.pas_types.specs.Routines.{Sort}
-use Rattle.pas_types.specs.ScopeViews.{outer_view}
+use Rattle.pas_scopes.specs.declared.scopes.Scopes.{Scopes as CodeScopes}
+use Rattle.pas_scopes.specs.declared.stop.Stop.{Stop}
+use Rattle.pas_rules.specs.Declarations.{declared_labels}
+use Rattle.pas_rules.specs.Routines.{Sort}
+use Rattle.pas_scopes.specs.ScopeViews.{outer_view}
 use Rattle.pas_types.specs.inner.LabelAnswers.{Declares}
 use Rattle.pas_types.specs.inner.RoutineAnswers.{sort_view}
 use Rattle.pas_types.specs.inner.BlockAnswers.{IsBlock}
-use Rattle.pas_types.proofs.LocalRowLemmas.{stopped}
+use Rattle.pas_scopes.proofs.LocalRowLemmas.{stopped}
 use Rattle.pas_types.proofs.BlockSteps.{labels_fail}
 use Rattle.pas_types.proofs.BlockDone.{variables_stop, statements_stop, block_done, leaves, labels_now, program_now}
 use Rattle.pas_types.proofs.BlockDone.{PassesFrom}

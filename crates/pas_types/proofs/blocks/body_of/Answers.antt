@@ -8,22 +8,22 @@ use Rattle.pas_syntax.specs.ProgramViews.{statements_in}
 use Rattle.pas_typed.specs.declared.typed.Labelled as code_labelled
 use Rattle.pas_typed.specs.TypedViews.{statements_view}
 use Rattle.pas_types.specs.declared.flow.Flow.{Flow}
-use Rattle.pas_types.specs.declared.scopes.Scopes.{Scopes as CodeScopes}
-use Rattle.pas_types.specs.declared.stop.Stop.{Stop}
-use Rattle.pas_types.specs.Labels.{labels_in_list, labels_of_list}
-use Rattle.pas_types.specs.Statements.{statements_of}
+use Rattle.pas_scopes.specs.declared.scopes.Scopes.{Scopes as CodeScopes}
+use Rattle.pas_scopes.specs.declared.stop.Stop.{Stop}
+use Rattle.pas_rules.specs.Labels.{labels_in_list, labels_of_list}
+use Rattle.pas_rules.specs.Statements.{statements_of}
 use Rattle.wb_base.specs.declared.faults.TheConstants.{RESULT_NEVER_ASSIGNED}
 use Rattle.pas_tokens.specs.Cutting.{wrong}
-use Rattle.pas_types.specs.Marks.{unless}
-use Rattle.pas_types.specs.Routines.{result_missing}
-use Rattle.pas_types.specs.ScopeViews.{scopes_view}
-use Rattle.pas_types.specs.inner.Answers.{Settles}
+use Rattle.pas_rules.specs.Marks.{unless}
+use Rattle.pas_rules.specs.Routines.{result_missing}
+use Rattle.pas_scopes.specs.ScopeViews.{scopes_view}
+use Rattle.pas_scopes.specs.Answers.{Settles}
 use Rattle.pas_types.specs.inner.FlowViews.{IsFlow}
 use Rattle.pas_types.specs.inner.RoutineAnswers.{sort_view}
 use Rattle.pas_types.specs.inner.BlockAnswers.{IsBody}
-use Rattle.pas_types.proofs.AnswerLemmas.{before_found}
-use Rattle.pas_types.proofs.SettleLemmas.{found_means}
-use Rattle.pas_types.proofs.LocalRowLemmas.{stopped}
+use Rattle.pas_scopes.proofs.AnswerLemmas.{before_found}
+use Rattle.pas_scopes.proofs.SettleLemmas.{found_means}
+use Rattle.pas_scopes.proofs.LocalRowLemmas.{stopped}
 use Rattle.pas_types.proofs.BlockLemmas.{flow_within, stands_within, list_fails, label_fails, result_fails, body_means}
 use Rattle.pas_types.proofs.blocks.body_of.Goals as goal
 

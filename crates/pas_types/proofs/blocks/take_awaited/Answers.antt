@@ -1,7 +1,7 @@
 use Rattle.std.proofs.Common.{sym, ap, ◌∙◌, ◌≤◌, arith, List, Option, length}
 use Rattle.std.specs.Prelude.{slice_set}
-use Rattle.pas_types.specs.declared.scopes.Inner.{Inner as CodeInner}
-use Rattle.pas_types.specs.declared.scopes.KnownRoutine.{KnownRoutine as CodeRoutine}
+use Rattle.pas_scopes.specs.declared.scopes.Inner.{Inner as CodeInner}
+use Rattle.pas_scopes.specs.declared.scopes.KnownRoutine.{KnownRoutine as CodeRoutine}
 use Rattle.pas_types.proofs.EnterLemmas.{set_without, nowhere_waits, without_past}
 use Rattle.pas_types.proofs.blocks.take_awaited.Goals as goal
 

@@ -8,11 +8,11 @@ use Rattle.pas_syntax.specs.Words.{argument_words}
 use Rattle.pas_syntax.specs.Views.{expr_in, behind_in, if_there}
 use Rattle.pas_syntax.specs.ProgramViews.{argument_in}
 use Rattle.pas_typed.specs.TypedViews.{passed_view}
-use Rattle.pas_types.specs.ScopeViews.{scopes_view}
-use Rattle.pas_types.specs.Calls.{actual_of, without_width}
-use Rattle.pas_types.specs.inner.Answers.{end_in, StandsAs, FailsBy}
-use Rattle.pas_types.specs.inner.Arguments.{taken_by, passing_in}
-use Rattle.pas_types.proofs.AnswerLemmas.{stands_stop}
+use Rattle.pas_scopes.specs.ScopeViews.{scopes_view}
+use Rattle.pas_rules.specs.Calls.{actual_of, without_width}
+use Rattle.pas_scopes.specs.Answers.{end_in, StandsAs, FailsBy}
+use Rattle.pas_scopes.specs.Arguments.{taken_by, passing_in}
+use Rattle.pas_scopes.proofs.AnswerLemmas.{stands_stop}
 use Rattle.pas_types.proofs.ActualLemmas.{width_fails, no_width_stands, width_refused_by, all_words, with_width}
 use Rattle.pas_types.proofs.calls.actual_of.Goals as goal
 

@@ -1,8 +1,8 @@
 use Rattle.std.proofs.Common.{◌+◌}
 use Rattle.std.proofs.lemmas.Result.{err_from_is_err_and}
-use Rattle.pas_types.specs.ScopeViews.{scopes_view}
-use Rattle.pas_types.specs.inner.Arguments.{sole_part}
-use Rattle.pas_types.proofs.SettleLemmas.{settles_stop, settles_why}
+use Rattle.pas_scopes.specs.ScopeViews.{scopes_view}
+use Rattle.pas_scopes.specs.Arguments.{sole_part}
+use Rattle.pas_scopes.proofs.SettleLemmas.{settles_stop, settles_why}
 use Rattle.pas_types.proofs.ActualLemmas.{statement_words, actual_givens}
 use Rattle.pas_types.proofs.SoleActuals.{alone_none, alone_unsettled, alone_second}
 use Rattle.pas_types.proofs.calls.alone.Goals as goal

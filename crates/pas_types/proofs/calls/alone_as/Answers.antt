@@ -2,11 +2,11 @@ use Rattle.std.proofs.Common.{subst, sym, refl, [], ◌∷◌, Some}
 use Rattle.pas_syntax.specs.Words.{name_at}
 use Rattle.pas_syntax.specs.Views.{ident_in}
 use Rattle.pas_typed.specs.TypedViews.{statement_view}
-use Rattle.pas_types.specs.declared.names.Entity.{Entity as CodeEntity}
-use Rattle.pas_types.specs.NameViews.{entity_view}
-use Rattle.pas_types.specs.ScopeViews.{scopes_view}
-use Rattle.pas_types.specs.Calls.{call_alone}
-use Rattle.pas_types.specs.inner.Answers.{Settles}
+use Rattle.pas_scopes.specs.declared.names.Entity.{Entity as CodeEntity}
+use Rattle.pas_scopes.specs.NameViews.{entity_view}
+use Rattle.pas_scopes.specs.ScopeViews.{scopes_view}
+use Rattle.pas_rules.specs.Calls.{call_alone}
+use Rattle.pas_scopes.specs.Answers.{Settles}
 use Rattle.pas_types.proofs.calls.alone_as.Goals as goal
 
 pub returns-in-Routine : goal.returns-in-Routine

@@ -2,10 +2,10 @@ use Rattle.std.proofs.Common.{◌∙◌, subst, sym, ap, [], ◌∷◌, Option, 
 use Rattle.pas_syntax.specs.Words.{name_at}
 use Rattle.pas_syntax.specs.Views.{ident_in}
 use Rattle.pas_typed.specs.TypedViews.{statement_view}
-use Rattle.pas_types.specs.Scopes.{Entity}
-use Rattle.pas_types.specs.ScopeViews.{scopes_view}
-use Rattle.pas_types.specs.Calls as spec
-use Rattle.pas_types.specs.inner.Answers.{Settles}
+use Rattle.pas_rules.specs.Scopes.{Entity}
+use Rattle.pas_scopes.specs.ScopeViews.{scopes_view}
+use Rattle.pas_rules.specs.Calls as spec
+use Rattle.pas_scopes.specs.Answers.{Settles}
 use Rattle.pas_types.proofs.calls.call_alone.Goals as goal
 
 pub returns-in-Some : goal.returns-in-Some

@@ -5,10 +5,10 @@ use Rattle.pas_syntax.specs.Tree.{procedure_call}
 use Rattle.pas_syntax.specs.Views.{ident_in, if_there}
 use Rattle.pas_syntax.specs.Words.{plain_words}
 use Rattle.pas_typed.specs.TypedViews.{statement_view}
-use Rattle.pas_types.specs.Scopes.{entity_of}
-use Rattle.pas_types.specs.ScopeViews.{scopes_view}
-use Rattle.pas_types.specs.Calls as spec
-use Rattle.pas_types.specs.inner.Answers.{Settles}
+use Rattle.pas_rules.specs.Scopes.{entity_of}
+use Rattle.pas_scopes.specs.ScopeViews.{scopes_view}
+use Rattle.pas_rules.specs.Calls as spec
+use Rattle.pas_scopes.specs.Answers.{Settles}
 use Rattle.pas_types.proofs.calls.call_of.Goals as goal
 
 pub returns-in-Some : goal.returns-in-Some

@@ -5,10 +5,10 @@ use Rattle.pas_syntax.specs.Views.{ident_in}
 use Rattle.pas_typed.specs.Types.{PasType}
 use Rattle.pas_typed.specs.TypeViews.{type_view}
 use Rattle.pas_typed.specs.TypedViews.{variable_view}
-use Rattle.pas_types.specs.Calls.{routine_without}
-use Rattle.pas_types.specs.inner.Answers.{IsQuiet}
-use Rattle.pas_types.proofs.FitLemmas.{some_mapped}
-use Rattle.pas_types.proofs.PassedLemmas.{statement_misses}
+use Rattle.pas_rules.specs.Calls.{routine_without}
+use Rattle.pas_scopes.specs.Answers.{IsQuiet}
+use Rattle.pas_scopes.proofs.FitLemmas.{some_mapped}
+use Rattle.pas_scopes.proofs.PassedLemmas.{statement_misses}
 use Rattle.pas_types.proofs.calls.heading_alone.Goals as goal
 
 pub returns-else-is_empty : goal.returns-else-is_empty

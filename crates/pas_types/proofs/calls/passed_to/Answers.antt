@@ -9,16 +9,16 @@ use Rattle.pas_syntax.specs.declared.tree.Behind.{Behind as CodeBehind}
 use Rattle.pas_syntax.specs.Words.{at, name_at}
 use Rattle.pas_typed.specs.declared.typed.Passed as code_passed
 use Rattle.pas_typed.specs.TypedViews.{passed_views}
-use Rattle.pas_types.specs.ScopeViews.{scopes_view}
-use Rattle.pas_types.specs.inner.Stopping.{demanded}
-use Rattle.pas_types.specs.inner.Answers.{end_in, Means, Settles}
-use Rattle.pas_types.specs.inner.Arguments.{passing_part}
-use Rattle.pas_types.proofs.LabelSeen.{taken_more, taken_all}
-use Rattle.pas_types.proofs.CallAnswers.{settled_is, unsettled_is, variables_of}
-use Rattle.pas_types.proofs.ExprCalls.{taken_split, taken_count}
+use Rattle.pas_scopes.specs.ScopeViews.{scopes_view}
+use Rattle.pas_scopes.specs.Stopping.{demanded}
+use Rattle.pas_scopes.specs.Answers.{end_in, Means, Settles}
+use Rattle.pas_scopes.specs.Arguments.{passing_part}
+use Rattle.pas_scopes.proofs.LabelSeen.{taken_more, taken_all}
+use Rattle.pas_scopes.proofs.CallAnswers.{settled_is, unsettled_is, variables_of}
+use Rattle.pas_scopes.proofs.ExprCalls.{taken_split, taken_count}
 use Rattle.pas_types.proofs.ActualLemmas.{argued_behind, behind_argued, first_actual, as_actuals}
-use Rattle.pas_types.proofs.PassedLemmas.{SoFar, first_stops, begun, more_unsettled, more_stops, one_more}
-use Rattle.pas_types.proofs.PassedLemmas.{too_few_stop, closing_short, closing_means, stop_settles, fail_settles}
+use Rattle.pas_scopes.proofs.PassedLemmas.{SoFar, first_stops, begun, more_unsettled, more_stops, one_more}
+use Rattle.pas_scopes.proofs.PassedLemmas.{too_few_stop, closing_short, closing_means, stop_settles, fail_settles}
 use Rattle.pas_types.proofs.calls.passed_to.Goals as goal
 
 pub returns-in_err-last : goal.returns-in_err-last

@@ -2,9 +2,9 @@ use Rattle.std.proofs.Common.{ℕ, ◌+◌, take}
 use Rattle.pas_tokens.specs.declared.kinds.Kind.TheVariants as k
 use Rattle.pas_syntax.specs.Tree.{Ident}
 use Rattle.pas_syntax.specs.Words.{at, name_at}
-use Rattle.pas_types.specs.ScopeViews.{scopes_view, IsClear}
+use Rattle.pas_scopes.specs.ScopeViews.{scopes_view, IsClear}
 use Rattle.pas_types.proofs.ActualLemmas.{argued_behind, behind_argued, first_actual}
-use Rattle.pas_types.proofs.PassedLemmas.{SoFar}
+use Rattle.pas_scopes.proofs.PassedLemmas.{SoFar}
 use Rattle.pas_types.proofs.calls.passed_to.Given as goal
 
 abbrev pub invariant-loop-index : goal.invariant-loop-index

@@ -1,10 +1,10 @@
 use Rattle.std.proofs.Common.{subst, sym, [], ◌∷◌}
-use Rattle.pas_types.specs.declared.names.Procedure.{Procedure as CodeProcedure}
+use Rattle.pas_scopes.specs.declared.names.Procedure.{Procedure as CodeProcedure}
 use Rattle.pas_typed.specs.TypedViews.{statement_view}
-use Rattle.pas_types.specs.NameViews.{procedure_view}
-use Rattle.pas_types.specs.ScopeViews.{scopes_view}
-use Rattle.pas_types.specs.Calls.{procedure_alone}
-use Rattle.pas_types.specs.inner.Answers.{Settles}
+use Rattle.pas_scopes.specs.NameViews.{procedure_view}
+use Rattle.pas_scopes.specs.ScopeViews.{scopes_view}
+use Rattle.pas_rules.specs.Calls.{procedure_alone}
+use Rattle.pas_scopes.specs.Answers.{Settles}
 use Rattle.pas_types.proofs.calls.procedure_alone.Goals as goal
 
 pub returns-in-Read : goal.returns-in-Read

@@ -3,11 +3,11 @@ use Rattle.pas_syntax.specs.ProgramViews.{arguments_in}
 use Rattle.pas_syntax.specs.Tree.{procedure_call}
 use Rattle.pas_syntax.specs.Words.{name_at, plain_words}
 use Rattle.pas_typed.specs.TypedViews.{statement_view}
-use Rattle.pas_types.specs.declared.names.Procedure.{Procedure as CodeProcedure}
-use Rattle.pas_types.specs.NameViews.{procedure_view}
-use Rattle.pas_types.specs.ScopeViews.{scopes_view}
-use Rattle.pas_types.specs.Calls.{actuals_of, procedure_of}
-use Rattle.pas_types.specs.inner.Answers.{Settles}
+use Rattle.pas_scopes.specs.declared.names.Procedure.{Procedure as CodeProcedure}
+use Rattle.pas_scopes.specs.NameViews.{procedure_view}
+use Rattle.pas_scopes.specs.ScopeViews.{scopes_view}
+use Rattle.pas_rules.specs.Calls.{actuals_of, procedure_of}
+use Rattle.pas_scopes.specs.Answers.{Settles}
 use Rattle.pas_types.proofs.calls.procedure_with.Goals as goal
 
 pub returns-in-Read : goal.returns-in-Read

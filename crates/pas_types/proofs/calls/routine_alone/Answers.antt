@@ -3,8 +3,8 @@ use Rattle.pas_syntax.specs.Words.{name_at}
 use Rattle.pas_syntax.specs.Views.{ident_in}
 use Rattle.pas_typed.specs.Typed.{Heading}
 use Rattle.pas_typed.specs.TypedViews.{statement_view}
-use Rattle.pas_types.specs.Calls.{routine_alone}
-use Rattle.pas_types.specs.inner.Answers.{Settles}
+use Rattle.pas_rules.specs.Calls.{routine_alone}
+use Rattle.pas_scopes.specs.Answers.{Settles}
 use Rattle.pas_types.proofs.calls.routine_alone.Goals as goal
 
 pub returns-in-Some : goal.returns-in-Some

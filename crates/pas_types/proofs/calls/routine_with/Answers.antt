@@ -8,11 +8,11 @@ use Rattle.pas_typed.specs.Typed.{calls}
 use Rattle.pas_typed.specs.declared.typed.Statement.TheVariants as code_statement
 use Rattle.pas_typed.specs.TypedViews.{variable_view, passed_views, statement_view}
 use Rattle.pas_typed.proofs.StatementViews.{statement_view-Calls}
-use Rattle.pas_types.specs.Expressions.{not_called}
-use Rattle.pas_types.specs.ScopeViews.{scopes_view}
-use Rattle.pas_types.specs.inner.Answers.{Means, ShowsBy, Settles}
-use Rattle.pas_types.specs.inner.Arguments.{passing_part}
-use Rattle.pas_types.proofs.SettleLemmas.{settles_stop}
+use Rattle.pas_rules.specs.Expressions.{not_called}
+use Rattle.pas_scopes.specs.ScopeViews.{scopes_view}
+use Rattle.pas_scopes.specs.Answers.{Means, ShowsBy, Settles}
+use Rattle.pas_scopes.specs.Arguments.{passing_part}
+use Rattle.pas_scopes.proofs.SettleLemmas.{settles_stop}
 use Rattle.pas_types.proofs.ActualLemmas.{statement_words, actual_givens}
 use Rattle.pas_types.proofs.ProcedureCalls.{called_procedure, called_function, called_part, refused_statement}
 use Rattle.pas_types.proofs.ProcedureCalls.{made_means}

@@ -1,12 +1,12 @@
 use Rattle.std.proofs.Common.{sym, subst, Err}
 use Rattle.wb_base.specs.declared.faults.TheConstants.{WRONG_TYPE}
 use Rattle.pas_tokens.specs.Cutting.{wrong}
-use Rattle.pas_types.specs.inner.Stopping.{shown_in}
-use Rattle.pas_types.specs.declared.stop.Stop.{Stop}
-use Rattle.pas_types.specs.ScopeViews.{scopes_view}
-use Rattle.pas_types.specs.inner.Answers.{end_in, Settles}
-use Rattle.pas_types.specs.inner.Arguments.{sole_part}
-use Rattle.pas_types.proofs.SettleLemmas.{settles_why}
+use Rattle.pas_scopes.specs.Stopping.{shown_in}
+use Rattle.pas_scopes.specs.declared.stop.Stop.{Stop}
+use Rattle.pas_scopes.specs.ScopeViews.{scopes_view}
+use Rattle.pas_scopes.specs.Answers.{end_in, Settles}
+use Rattle.pas_scopes.specs.Arguments.{sole_part}
+use Rattle.pas_scopes.proofs.SettleLemmas.{settles_why}
 use Rattle.pas_types.proofs.ActualLemmas.{statement_words, actual_givens}
 use Rattle.pas_types.proofs.SoleActuals.{widened, unwidened}
 use Rattle.pas_types.proofs.calls.sole.Goals as goal

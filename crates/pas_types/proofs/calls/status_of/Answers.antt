@@ -5,12 +5,12 @@ use Rattle.pas_tokens.specs.Cutting.{wrong}
 use Rattle.pas_typed.specs.Types.{integer, is_of}
 use Rattle.pas_typed.specs.TypeViews.{table_view}
 use Rattle.pas_typed.specs.TypedViews.{value_view}
-use Rattle.pas_types.specs.Marks.{unless}
-use Rattle.pas_types.specs.Expressions.{only}
-use Rattle.pas_types.specs.inner.Answers.{end_in}
-use Rattle.pas_types.specs.inner.Arguments.{taken_as, plainly}
-use Rattle.pas_types.proofs.AnswerLemmas.{stands_stop}
-use Rattle.pas_types.proofs.FitLemmas.{fit_fails, fit_stands}
+use Rattle.pas_rules.specs.Marks.{unless}
+use Rattle.pas_rules.specs.Expressions.{only}
+use Rattle.pas_scopes.specs.Answers.{end_in}
+use Rattle.pas_scopes.specs.Arguments.{taken_as, plainly}
+use Rattle.pas_scopes.proofs.AnswerLemmas.{stands_stop}
+use Rattle.pas_scopes.proofs.FitLemmas.{fit_fails, fit_stands}
 use Rattle.pas_types.proofs.calls.status_of.Goals as goal
 
 pub returns-in_err-stands : goal.returns-in_err-stands

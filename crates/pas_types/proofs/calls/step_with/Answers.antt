@@ -6,12 +6,12 @@ use Rattle.pas_typed.specs.declared.typed.Place as code_place
 use Rattle.pas_typed.specs.Typed as typed
 use Rattle.pas_typed.specs.TypedViews.{value_view, place_view, file_step_view, statement_view}
 use Rattle.pas_typed.proofs.StatementViews.{statement_view-Steps}
-use Rattle.pas_types.specs.Expressions.{value_of, file_only}
-use Rattle.pas_types.specs.ScopeViews.{scopes_view}
-use Rattle.pas_types.specs.inner.Answers.{Means}
-use Rattle.pas_types.specs.inner.Arguments.{sole_part, plainly}
-use Rattle.pas_types.proofs.SettleLemmas.{settles_stop, settles_why}
-use Rattle.pas_types.proofs.CallAnswers.{stopped_fails}
+use Rattle.pas_rules.specs.Expressions.{value_of, file_only}
+use Rattle.pas_scopes.specs.ScopeViews.{scopes_view}
+use Rattle.pas_scopes.specs.Answers.{Means}
+use Rattle.pas_scopes.specs.Arguments.{sole_part, plainly}
+use Rattle.pas_scopes.proofs.SettleLemmas.{settles_stop, settles_why}
+use Rattle.pas_scopes.proofs.CallAnswers.{stopped_fails}
 use Rattle.pas_types.proofs.ActualLemmas.{statement_words, actual_givens}
 use Rattle.pas_types.proofs.SoleActuals.{value_fails, step_part, step_means}
 use Rattle.pas_types.proofs.calls.step_with.Goals as goal

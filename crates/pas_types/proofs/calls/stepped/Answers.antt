@@ -6,12 +6,12 @@ use Rattle.pas_typed.specs.declared.typed.Place as code_place
 use Rattle.pas_typed.specs.Typed.{read}
 use Rattle.pas_typed.specs.TypeViews.{table_view}
 use Rattle.pas_typed.specs.TypedViews.{value_view, place_view}
-use Rattle.pas_types.specs.Marks.{unless}
-use Rattle.pas_types.specs.Expressions.{file_only}
-use Rattle.pas_types.specs.inner.Answers.{end_in}
-use Rattle.pas_types.specs.inner.Arguments.{taken_as, plainly}
-use Rattle.pas_types.proofs.AnswerLemmas.{stands_stop}
-use Rattle.pas_types.proofs.FitLemmas.{fit_fails}
+use Rattle.pas_rules.specs.Marks.{unless}
+use Rattle.pas_rules.specs.Expressions.{file_only}
+use Rattle.pas_scopes.specs.Answers.{end_in}
+use Rattle.pas_scopes.specs.Arguments.{taken_as, plainly}
+use Rattle.pas_scopes.proofs.AnswerLemmas.{stands_stop}
+use Rattle.pas_scopes.proofs.FitLemmas.{fit_fails}
 use Rattle.pas_types.proofs.calls.stepped.Goals as goal
 
 pub returns-in_err-stands : goal.returns-in_err-stands

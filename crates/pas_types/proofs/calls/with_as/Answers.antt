@@ -6,12 +6,12 @@ use Rattle.pas_syntax.specs.Tree.{procedure_call}
 use Rattle.pas_syntax.specs.Views.{ident_in}
 use Rattle.pas_syntax.specs.Words.{plain_words}
 use Rattle.pas_typed.specs.TypedViews.{statement_view}
-use Rattle.pas_types.specs.declared.names.Entity.{Entity as CodeEntity}
-use Rattle.pas_types.specs.Expressions.{not_called}
-use Rattle.pas_types.specs.NameViews.{entity_view}
-use Rattle.pas_types.specs.ScopeViews.{scopes_view}
-use Rattle.pas_types.specs.Calls.{actuals_of, without_width, call_by}
-use Rattle.pas_types.specs.inner.Answers.{ShowsBy, Settles}
+use Rattle.pas_scopes.specs.declared.names.Entity.{Entity as CodeEntity}
+use Rattle.pas_rules.specs.Expressions.{not_called}
+use Rattle.pas_scopes.specs.NameViews.{entity_view}
+use Rattle.pas_scopes.specs.ScopeViews.{scopes_view}
+use Rattle.pas_rules.specs.Calls.{actuals_of, without_width, call_by}
+use Rattle.pas_scopes.specs.Answers.{ShowsBy, Settles}
 use Rattle.pas_types.proofs.ProcedureCalls.{refused_statement, other_statement}
 use Rattle.pas_types.proofs.calls.with_as.Goals as goal
 

@@ -8,14 +8,14 @@ use Rattle.pas_syntax.specs.Views.{constant_in}
 use Rattle.pas_syntax.specs.Words.{Word, constant_words}
 use Rattle.pas_typed.specs.Types.{Base, same_base}
 use Rattle.pas_typed.specs.TypeViews.{base_view}
-use Rattle.pas_types.specs.Marks.{known}
-use Rattle.pas_types.specs.Scopes.{Scopes}
-use Rattle.pas_types.specs.TypeForms.{ConstantValue, constant_of}
-use Rattle.pas_types.specs.Statements.{fits_case}
-use Rattle.pas_types.specs.ScopeViews.{scopes_view}
-use Rattle.pas_types.specs.inner.Constants.{ordinal_view}
+use Rattle.pas_rules.specs.Marks.{known}
+use Rattle.pas_rules.specs.Scopes.{Scopes}
+use Rattle.pas_rules.specs.TypeForms.{ConstantValue, constant_of}
+use Rattle.pas_rules.specs.Statements.{fits_case}
+use Rattle.pas_scopes.specs.ScopeViews.{scopes_view}
+use Rattle.pas_scopes.specs.Constants.{ordinal_view}
 use Rattle.pas_types.specs.inner.CaseViews.{choice_part}
-use Rattle.pas_types.proofs.AnswerLemmas.{checked_stops_by, stops_fails}
+use Rattle.pas_scopes.proofs.AnswerLemmas.{checked_stops_by, stops_fails}
 use Rattle.pas_types.proofs.CaseLemmas.{holds_stop, base_refused, taken_refused, choice_means, base_demanded}
 use Rattle.pas_types.proofs.CaseLemmas.{taken_values}
 use Rattle.pas_types.proofs.cases.choice_of.Goals as goal

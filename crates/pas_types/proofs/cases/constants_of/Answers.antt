@@ -12,12 +12,12 @@ use Rattle.pas_syntax.specs.Views.{constant_in, behind_in, separated_in}
 use Rattle.pas_syntax.specs.Words.{constant_words, separated}
 use Rattle.pas_typed.specs.Types.{Base}
 use Rattle.pas_typed.specs.TypeViews.{base_view}
-use Rattle.pas_types.specs.Scopes.{Scopes}
-use Rattle.pas_types.specs.Statements.{constants_of}
-use Rattle.pas_types.specs.ScopeViews.{scopes_view}
-use Rattle.pas_types.specs.inner.Answers.{Means, FailsBy}
+use Rattle.pas_rules.specs.Scopes.{Scopes}
+use Rattle.pas_rules.specs.Statements.{constants_of}
+use Rattle.pas_scopes.specs.ScopeViews.{scopes_view}
+use Rattle.pas_scopes.specs.Answers.{Means, FailsBy}
 use Rattle.pas_types.specs.inner.CaseViews.{choice_part}
-use Rattle.pas_types.proofs.LabelSeen.{taken_all}
+use Rattle.pas_scopes.proofs.LabelSeen.{taken_all}
 use Rattle.pas_types.proofs.CaseLemmas.{holds_stop, AreChosen, first_chosen, next_chosen, first_fails, next_fails}
 use Rattle.pas_types.proofs.CaseLemmas.{one_seen, around_one, more_words, behind_first, first_part}
 use Rattle.pas_types.proofs.cases.constants_of.Goals as goal

@@ -1,7 +1,7 @@
 use Rattle.std.proofs.Common.{◌≡◌, ◌++◌, ℕ, map, take}
 use Rattle.pas_syntax.specs.Views.{constant_in, behind_in}
 use Rattle.pas_typed.specs.TypeViews.{base_view}
-use Rattle.pas_types.specs.ScopeViews.{scopes_view, IsClear}
+use Rattle.pas_scopes.specs.ScopeViews.{scopes_view, IsClear}
 use Rattle.pas_types.proofs.CaseLemmas.{AreChosen}
 use Rattle.pas_types.proofs.cases.constants_of.Given as goal
 

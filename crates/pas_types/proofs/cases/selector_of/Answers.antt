@@ -15,13 +15,13 @@ use Rattle.pas_typed.specs.Typed.{Value}
 use Rattle.pas_typed.specs.TypeOf.{type_of}
 use Rattle.pas_typed.specs.TypeViews.{base_view}
 use Rattle.pas_typed.specs.TypedViews.{value_view}
-use Rattle.pas_types.specs.declared.stop.Stop.{Stop}
-use Rattle.pas_types.specs.Marks.{checked, unless}
-use Rattle.pas_types.specs.Scopes.{Scopes}
-use Rattle.pas_types.specs.Expressions.{ordinal_only, value_of}
-use Rattle.pas_types.specs.ScopeViews.{scopes_view}
-use Rattle.pas_types.proofs.AnswerLemmas.{before_found, checked_stops_by}
-use Rattle.pas_types.proofs.SettleLemmas.{found_means, found_stops}
+use Rattle.pas_scopes.specs.declared.stop.Stop.{Stop}
+use Rattle.pas_rules.specs.Marks.{checked, unless}
+use Rattle.pas_rules.specs.Scopes.{Scopes}
+use Rattle.pas_rules.specs.Expressions.{ordinal_only, value_of}
+use Rattle.pas_scopes.specs.ScopeViews.{scopes_view}
+use Rattle.pas_scopes.proofs.AnswerLemmas.{before_found, checked_stops_by}
+use Rattle.pas_scopes.proofs.SettleLemmas.{found_means, found_stops}
 use Rattle.pas_types.proofs.FlowLemmas.{is_some_map}
 use Rattle.pas_types.proofs.TargetLemmas.{stops_before, precedes_stop}
 use Rattle.pas_types.proofs.cases.selector_of.Goals as goal

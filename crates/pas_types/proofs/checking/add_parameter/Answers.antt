@@ -1,9 +1,9 @@
 use Rattle.std.proofs.Common.{◌≡◌, sym, ap, subst, ◌∙◌, ℕ, true, List}
 use Rattle.std.specs.Prelude.{not, ◌&&◌}
 use Rattle.pas_syntax.specs.Views.{spelled_in}
-use Rattle.pas_types.specs.declared.scopes.Scopes.{Scopes as CodeScopes}
-use Rattle.pas_types.specs.Scopes.{contains, standard_names}
-use Rattle.pas_types.specs.NameViews.{with_name}
+use Rattle.pas_scopes.specs.declared.scopes.Scopes.{Scopes as CodeScopes}
+use Rattle.pas_rules.specs.Scopes.{contains, standard_names}
+use Rattle.pas_rules.specs.Scopes.{with_name}
 use Rattle.pas_types.specs.inner.Checking.{HasParameters}
 use Rattle.pas_types.proofs.BegunLemmas.{has_more, and_true, ok_two}
 use Rattle.pas_types.proofs.checking.add_parameter.Goals as goal

@@ -1,7 +1,7 @@
 use Rattle.std.proofs.Common.{◌≡◌, ℕ, List, map, take}
 use Rattle.std.specs.Prelude.{fold}
 use Rattle.pas_syntax.specs.Views.{spelled_in}
-use Rattle.pas_types.specs.NameViews.{with_name}
+use Rattle.pas_rules.specs.Scopes.{with_name}
 use Rattle.pas_types.specs.inner.Checking.{HasParameters}
 use Rattle.pas_types.proofs.checking.add_parameters.Given as goal
 

@@ -4,9 +4,9 @@ use Rattle.pas_syntax.specs.declared.tree.Ident.{Ident as CodeIdent}
 use Rattle.pas_syntax.specs.declared.tree.Behind.{Behind as CodeBehind}
 use Rattle.pas_syntax.specs.Tree.{Ident}
 use Rattle.pas_syntax.specs.Views.{ident_in, separated_in}
-use Rattle.pas_types.specs.ScopeViews.{scopes_view}
+use Rattle.pas_scopes.specs.ScopeViews.{scopes_view}
 use Rattle.pas_types.specs.inner.Checking.{IsParameter, AreParameters}
-use Rattle.pas_types.proofs.NewNameLemmas.{all_names, seen_behind}
+use Rattle.pas_scopes.proofs.NewNameLemmas.{all_names, seen_behind}
 use Rattle.pas_types.proofs.ParameterLemmas.{unbegun, name_more, name_stopped, names_ended, parameters_stop}
 use Rattle.pas_types.proofs.checking.each_stands.Goals as goal
 

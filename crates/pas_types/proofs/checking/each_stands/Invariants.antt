@@ -1,7 +1,7 @@
 use Rattle.std.proofs.Common.{take}
 use Rattle.pas_syntax.specs.Views.{ident_in}
-use Rattle.pas_types.specs.ScopeViews.{scopes_view}
-use Rattle.pas_types.proofs.NewNameLemmas.{seen_behind}
+use Rattle.pas_scopes.specs.ScopeViews.{scopes_view}
+use Rattle.pas_scopes.proofs.NewNameLemmas.{seen_behind}
 use Rattle.pas_types.proofs.ParameterLemmas.{SoFar}
 use Rattle.pas_types.proofs.checking.each_stands.Given as goal
 

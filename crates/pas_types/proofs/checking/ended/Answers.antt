@@ -4,9 +4,9 @@ use Rattle.std.proofs.lemmas.Result.{err_from_is_err_and}
 use Rattle.pas_syntax.specs.Words.{statements_words}
 use Rattle.pas_typed.specs.declared.typed.Labelled as code_labelled
 use Rattle.pas_typed.specs.TypedViews.{statements_view}
-use Rattle.pas_types.specs.declared.stop.Stop.{Stop}
+use Rattle.pas_scopes.specs.declared.stop.Stop.{Stop}
 use Rattle.wb_base.specs.declared.faults.TheConstants.{WRONG_TYPE, UNKNOWN_NAME}
-use Rattle.pas_types.specs.inner.Answers.{FailsBy, Settles}
+use Rattle.pas_scopes.specs.Answers.{FailsBy, Settles}
 use Rattle.pas_types.specs.inner.Checking.{main_words, main_part, lacking, stop_at}
 use Rattle.pas_types.proofs.MainLemmas.{main_means, main_lacks, main_stops, whole_stop}
 use Rattle.pas_types.proofs.checking.ended.Goals as goal

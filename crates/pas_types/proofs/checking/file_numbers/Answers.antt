@@ -3,7 +3,7 @@ use Rattle.std.specs.Prelude.{position, option_to_list}
 use Rattle.std.specs.Str.{bytes_eq}
 use Rattle.pas_syntax.specs.declared.tree.Ident.{Ident as CodeIdent}
 use Rattle.pas_syntax.specs.Views.{spelled_in}
-use Rattle.pas_types.specs.ScopeViews.{scopes_view}
+use Rattle.pas_scopes.specs.ScopeViews.{scopes_view}
 use Rattle.pas_types.proofs.ParameterLemmas.{files_more}
 use Rattle.pas_types.proofs.checking.file_numbers.Goals as goal
 

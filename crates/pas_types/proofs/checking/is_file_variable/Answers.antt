@@ -1,8 +1,8 @@
 use Rattle.std.proofs.Common.{sym, ap, ◌∙◌}
 use Rattle.pas_typed.specs.TypeViews.{table_view}
-use Rattle.pas_types.specs.declared.names.Entity.{Entity as CodeEntity}
-use Rattle.pas_types.specs.Check.{is_file_variable}
-use Rattle.pas_types.specs.NameViews.{entity_view}
+use Rattle.pas_scopes.specs.declared.names.Entity.{Entity as CodeEntity}
+use Rattle.pas_rules.specs.Check.{is_file_variable}
+use Rattle.pas_scopes.specs.NameViews.{entity_view}
 use Rattle.pas_types.proofs.checking.is_file_variable.Goals as goal
 
 pub returns-in-Variable : goal.returns-in-Variable

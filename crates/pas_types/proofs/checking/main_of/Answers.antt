@@ -7,11 +7,11 @@ use Rattle.pas_syntax.specs.ProgramViews.{statements_in, compound_in}
 use Rattle.pas_syntax.specs.Words.{statements_words}
 use Rattle.pas_typed.specs.TypedViews.{statements_view}
 use Rattle.pas_types.specs.declared.flow.Flow.{Flow}
-use Rattle.pas_types.specs.Labels.{labels_of_list, labels_in_list}
-use Rattle.pas_types.specs.Routines.{all_stand}
-use Rattle.pas_types.specs.Statements.{statements_of}
-use Rattle.pas_types.specs.ScopeViews.{scopes_view}
-use Rattle.pas_types.specs.inner.Answers.{Settles}
+use Rattle.pas_rules.specs.Labels.{labels_of_list, labels_in_list}
+use Rattle.pas_rules.specs.Routines.{all_stand}
+use Rattle.pas_rules.specs.Statements.{statements_of}
+use Rattle.pas_scopes.specs.ScopeViews.{scopes_view}
+use Rattle.pas_scopes.specs.Answers.{Settles}
 use Rattle.pas_types.specs.inner.Checking.{main_words, main_part, IsWhole}
 use Rattle.pas_types.proofs.PlainSeen.{body_seen}
 use Rattle.pas_types.proofs.MainLemmas.{flow_begins, flow_stands, ok_mapped, bodies_seen}

@@ -2,7 +2,7 @@ use Rattle.std.proofs.Common.{sym, subst, Option}
 use Rattle.pas_syntax.specs.declared.tree.ProgramParameters.{ProgramParameters as CodeParameters}
 use Rattle.pas_syntax.specs.Views.{if_there}
 use Rattle.pas_syntax.specs.ProgramViews.{program_parameters_in}
-use Rattle.pas_types.specs.ScopeViews.{scopes_view}
+use Rattle.pas_scopes.specs.ScopeViews.{scopes_view}
 use Rattle.pas_types.specs.inner.Checking.{IsHeading}
 use Rattle.pas_types.proofs.ParameterLemmas.{heading_stands}
 use Rattle.pas_types.proofs.checking.parameters_stand.Goals as goal

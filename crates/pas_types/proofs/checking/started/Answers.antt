@@ -5,11 +5,11 @@ use Rattle.pas_syntax.specs.declared.tree.Labels.{Labels as CodeLabels}
 use Rattle.pas_syntax.specs.Tree.{Ident, Program, Compound}
 use Rattle.pas_syntax.specs.Views.{if_there, spelled_in, ident_in}
 use Rattle.pas_syntax.specs.ProgramViews.{labels_in, program_in}
-use Rattle.pas_types.specs.declared.scopes.Scopes.{Scopes as CodeScopes}
-use Rattle.pas_types.specs.Labels.{label_at_end}
-use Rattle.pas_types.specs.Declarations.{declared_labels}
-use Rattle.pas_types.specs.Check.{parameter_names}
-use Rattle.pas_types.specs.NameViews.{with_name}
+use Rattle.pas_scopes.specs.declared.scopes.Scopes.{Scopes as CodeScopes}
+use Rattle.pas_rules.specs.Labels.{label_at_end}
+use Rattle.pas_rules.specs.Declarations.{declared_labels}
+use Rattle.pas_rules.specs.Check.{parameter_names}
+use Rattle.pas_rules.specs.Scopes.{with_name}
 use Rattle.pas_types.specs.inner.Checking.{HasParameters}
 use Rattle.pas_types.proofs.PlainSeen.{body_seen}
 use Rattle.pas_types.proofs.BegunLemmas.{begins, none_has, spelled_all}

@@ -1,7 +1,7 @@
 use Rattle.std.proofs.Common.{ap, ◌∙◌, ◌∷◌, List, map}
 use Rattle.pas_syntax.specs.declared.tree.Numeral.{Numeral as CodeNumeral}
 use Rattle.pas_syntax.specs.declared.tree.Behind.{Behind as CodeBehind}
-use Rattle.pas_types.proofs.LabelSeen.{taken_all}
+use Rattle.pas_scopes.proofs.LabelSeen.{taken_all}
 use Rattle.pas_types.proofs.BegunLemmas.{values_seen}
 use Rattle.pas_types.proofs.checking.values_of.Goals as goal
 

@@ -6,14 +6,14 @@ use Rattle.pas_syntax.specs.Tree.{Parameter, Parameters}
 use Rattle.pas_syntax.specs.Views.{behind_in}
 use Rattle.pas_syntax.specs.ProgramViews.{parameter_in, parameters_in}
 use Rattle.pas_syntax.specs.Words.{parameters_words, parameter_words}
-use Rattle.pas_types.specs.declared.scopes.Scopes.{Scopes as CodeScopes}
-use Rattle.pas_types.specs.declared.stop.Stop.{Stop}
-use Rattle.pas_types.specs.Scopes.{Outer, Inner}
-use Rattle.pas_types.specs.Routines.{more_formals, formals_of}
-use Rattle.pas_types.specs.ScopeViews.{outer_view, inner_view}
-use Rattle.pas_types.specs.inner.Answers.{FailsBy}
+use Rattle.pas_scopes.specs.declared.scopes.Scopes.{Scopes as CodeScopes}
+use Rattle.pas_scopes.specs.declared.stop.Stop.{Stop}
+use Rattle.pas_rules.specs.Scopes.{Outer, Inner}
+use Rattle.pas_rules.specs.Routines.{more_formals, formals_of}
+use Rattle.pas_scopes.specs.ScopeViews.{outer_view, inner_view}
+use Rattle.pas_scopes.specs.Answers.{FailsBy}
 use Rattle.pas_types.specs.inner.RoutineAnswers.{PassesFormals}
-use Rattle.pas_types.proofs.LocalRowLemmas.{stopped}
+use Rattle.pas_scopes.proofs.LocalRowLemmas.{stopped}
 use Rattle.pas_types.proofs.FormalsLemmas.{formals_first, formals_none, formals_next, formals_fail, formals_all}
 use Rattle.pas_types.proofs.FormalsLemmas.{enclosed_passes, FormalPasses, first_formal, more_words}
 use Rattle.pas_types.proofs.headings.all_formals.Goals as goal

@@ -1,8 +1,8 @@
 use Rattle.std.proofs.Common.{◌≡◌}
 use Rattle.pas_syntax.specs.Views.{behind_in}
 use Rattle.pas_syntax.specs.ProgramViews.{parameter_in}
-use Rattle.pas_types.specs.declared.scopes.Inner.{Inner}
-use Rattle.pas_types.specs.inner.Locals.{IsWithin}
+use Rattle.pas_scopes.specs.declared.scopes.Inner.{Inner}
+use Rattle.pas_scopes.specs.Locals.{IsWithin}
 use Rattle.pas_types.proofs.FormalsLemmas.{Formals}
 use Rattle.pas_types.proofs.headings.all_formals.Given as goal
 

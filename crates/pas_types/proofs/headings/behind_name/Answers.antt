@@ -4,11 +4,12 @@ use Rattle.std.proofs.lemmas.Result.{err_from_is_err_and}
 use Rattle.pas_syntax.specs.Tree.{Behind, TypeName, Parameters}
 use Rattle.pas_syntax.specs.Views.{behind_in, if_there}
 use Rattle.pas_syntax.specs.ProgramViews.{type_name_in, parameters_in}
-use Rattle.pas_types.specs.declared.scopes.Scopes.{Scopes as CodeScopes}
-use Rattle.pas_types.specs.Routines.{formals_of, result_part, missing_result, Formal, Sort}
-use Rattle.pas_types.specs.ScopeViews.{outer_view, inner_view, made_view}
-use Rattle.pas_types.specs.inner.RoutineAnswers.{sort_view, parts_in, rest_words, PassesHeading}
-use Rattle.pas_types.proofs.LocalRowLemmas.{stopped}
+use Rattle.pas_scopes.specs.declared.scopes.Scopes.{Scopes as CodeScopes}
+use Rattle.pas_rules.specs.Routines.{formals_of, result_part, missing_result, Formal, Sort}
+use Rattle.pas_scopes.specs.ScopeViews.{outer_view, inner_view, made_view}
+use Rattle.pas_types.specs.inner.RoutineAnswers.{sort_view, parts_in, PassesHeading}
+use Rattle.pas_rules.specs.HeadingWords.{rest_words}
+use Rattle.pas_scopes.proofs.LocalRowLemmas.{stopped}
 use Rattle.pas_types.proofs.HeadingLemmas.{rest_formals_fail, result_is, rest_result_fails, rest_missing_fails}
 use Rattle.pas_types.proofs.HeadingLemmas.{rest_passes}
 use Rattle.pas_types.proofs.headings.behind_name.Goals as goal

@@ -1,10 +1,11 @@
 use Rattle.std.proofs.Common.{Ok, Err}
 use Rattle.std.proofs.lemmas.Result.{err_from_is_err_and}
-use Rattle.pas_types.specs.declared.scopes.Scopes.{Scopes as CodeScopes}
-use Rattle.pas_types.specs.Routines.{HeadingParts, first_heading}
-use Rattle.pas_types.specs.ScopeViews.{outer_view}
-use Rattle.pas_types.specs.inner.RoutineAnswers.{parts_in, parts_words, HeadsBy}
-use Rattle.pas_types.proofs.LocalRowLemmas.{stopped}
+use Rattle.pas_scopes.specs.declared.scopes.Scopes.{Scopes as CodeScopes}
+use Rattle.pas_rules.specs.Routines.{HeadingParts, first_heading}
+use Rattle.pas_scopes.specs.ScopeViews.{outer_view}
+use Rattle.pas_types.specs.inner.RoutineAnswers.{parts_in, HeadsBy}
+use Rattle.pas_rules.specs.HeadingWords.{parts_words}
+use Rattle.pas_scopes.proofs.LocalRowLemmas.{stopped}
 use Rattle.pas_types.proofs.FirstHeadingLemmas.{name_stops, rest_stops, heading_at, first_done}
 use Rattle.pas_types.proofs.headings.first_heading.Goals as goal
 

@@ -1,9 +1,9 @@
 use Rattle.std.proofs.Common.{ap}
 use Rattle.std.proofs.lemmas.Result.{err_from_is_err_and}
-use Rattle.pas_types.specs.declared.scopes.Scopes.{Scopes as CodeScopes}
-use Rattle.pas_types.specs.inner.Answers.{Ending}
+use Rattle.pas_scopes.specs.declared.scopes.Scopes.{Scopes as CodeScopes}
+use Rattle.pas_scopes.specs.Answers.{Ending}
 use Rattle.pas_types.specs.inner.RoutineAnswers.{PassesFormals}
-use Rattle.pas_types.proofs.LocalRowLemmas.{stopped}
+use Rattle.pas_scopes.proofs.LocalRowLemmas.{stopped}
 use Rattle.pas_types.proofs.FormalLemmas.{formal, words_there, parameter_names_fail, parameter_type_fails}
 use Rattle.pas_types.proofs.FormalLemmas.{parameter_returns}
 use Rattle.pas_types.proofs.headings.formal_of.Goals as goal

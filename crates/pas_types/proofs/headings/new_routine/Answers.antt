@@ -3,12 +3,12 @@ use Rattle.std.specs.Prelude.{not, nat_lt, length}
 use Rattle.pas_syntax.specs.Tree.{Ident}
 use Rattle.pas_syntax.specs.Views.{ident_in}
 use Rattle.pas_syntax.specs.Words.{name_at}
-use Rattle.pas_types.specs.declared.limits.TheConstants.{ROUTINE_LIMIT}
-use Rattle.pas_types.specs.Scopes.{Outer, contains}
-use Rattle.pas_types.specs.Declarations.{taken}
-use Rattle.pas_types.specs.ScopeViews.{outer_view}
+use Rattle.pas_rules.specs.declared.limits.TheConstants.{ROUTINE_LIMIT}
+use Rattle.pas_rules.specs.Scopes.{Outer, contains}
+use Rattle.pas_rules.specs.Declarations.{taken}
+use Rattle.pas_scopes.specs.ScopeViews.{outer_view}
 use Rattle.pas_types.specs.inner.RoutineAnswers.{IsNewRoutine}
-use Rattle.pas_types.proofs.LocalRowLemmas.{stopped}
+use Rattle.pas_scopes.proofs.LocalRowLemmas.{stopped}
 use Rattle.pas_types.proofs.HeadingLemmas.{name_fails}
 use Rattle.pas_types.proofs.headings.new_routine.Goals as goal
 

@@ -5,12 +5,12 @@ use Rattle.pas_syntax.specs.Views.{ident_in, behind_in, if_there}
 use Rattle.pas_syntax.specs.ProgramViews.{type_name_in}
 use Rattle.pas_syntax.specs.Words.{Word, name_at, words_if, result_words}
 use Rattle.pas_typed.specs.Types.{Made}
-use Rattle.pas_types.specs.declared.scopes.Scopes.{Scopes as CodeScopes}
-use Rattle.pas_types.specs.Marks.{Judged, checked}
-use Rattle.pas_types.specs.Routines.{ordinal_result, result_part}
-use Rattle.pas_types.specs.ScopeViews.{outer_view, inner_view, made_view}
+use Rattle.pas_scopes.specs.declared.scopes.Scopes.{Scopes as CodeScopes}
+use Rattle.pas_rules.specs.Marks.{Judged, checked}
+use Rattle.pas_rules.specs.Routines.{ordinal_result, result_part}
+use Rattle.pas_scopes.specs.ScopeViews.{outer_view, inner_view, made_view}
 use Rattle.pas_types.specs.inner.RoutineAnswers.{IsResult}
-use Rattle.pas_types.proofs.LocalRowLemmas.{stopped}
+use Rattle.pas_scopes.proofs.LocalRowLemmas.{stopped}
 use Rattle.pas_types.proofs.FormalLemmas.{part_in}
 use Rattle.pas_types.proofs.HeadingLemmas.{result_means, result_fails}
 use Rattle.pas_types.proofs.headings.result_of.Goals as goal

@@ -8,15 +8,15 @@ use Rattle.pas_syntax.specs.Views.{ident_in}
 use Rattle.pas_syntax.specs.Words.{Word, name_at}
 use Rattle.pas_typed.specs.Types.{Made}
 use Rattle.pas_typed.specs.TypeViews.{range_view}
-use Rattle.pas_types.specs.declared.scopes.Scopes.{Scopes as CodeScopes}
-use Rattle.pas_types.specs.Marks.{Judged, checked, unless}
-use Rattle.pas_types.specs.Routines.{ordinal_result}
-use Rattle.pas_types.specs.ScopeViews.{made_view}
-use Rattle.pas_types.specs.inner.Answers.{Ending, end_in, noted_end, settled_by, EndsAs}
+use Rattle.pas_scopes.specs.declared.scopes.Scopes.{Scopes as CodeScopes}
+use Rattle.pas_rules.specs.Marks.{Judged, checked, unless}
+use Rattle.pas_rules.specs.Routines.{ordinal_result}
+use Rattle.pas_scopes.specs.ScopeViews.{made_view}
+use Rattle.pas_scopes.specs.Answers.{Ending, end_in, noted_end, settled_by, EndsAs}
 use Rattle.pas_types.specs.inner.RoutineAnswers.{IsOrdinal}
-use Rattle.pas_types.proofs.AnswerLemmas.{stops_fails, checked_stops_by}
-use Rattle.pas_types.proofs.SettleLemmas.{settles_checked}
-use Rattle.pas_types.proofs.LocalRowLemmas.{stopped}
+use Rattle.pas_scopes.proofs.AnswerLemmas.{stops_fails, checked_stops_by}
+use Rattle.pas_scopes.proofs.SettleLemmas.{settles_checked}
+use Rattle.pas_scopes.proofs.LocalRowLemmas.{stopped}
 use Rattle.pas_types.proofs.FormalLemmas.{part_in, part_ends, part_stops}
 use Rattle.pas_types.proofs.HeadingLemmas.{ordinal_by, some_seen}
 use Rattle.pas_types.proofs.headings.result_type.Goals as goal

@@ -2,8 +2,8 @@ use Rattle.std.proofs.Common.{sym, subst, Option, Some, None, Err}
 use Rattle.pas_syntax.specs.Tree.{Ident, Behind, TypeName}
 use Rattle.pas_syntax.specs.Views.{ident_in, behind_in, if_there}
 use Rattle.pas_syntax.specs.ProgramViews.{parameters_in, type_name_in}
-use Rattle.pas_types.specs.declared.stop.Stop.{Stop}
-use Rattle.pas_types.specs.ScopeViews.{outer_view}
+use Rattle.pas_scopes.specs.declared.stop.Stop.{Stop}
+use Rattle.pas_scopes.specs.ScopeViews.{outer_view}
 use Rattle.pas_types.specs.inner.RoutineAnswers.{sort_view}
 use Rattle.pas_types.proofs.SecondLemmas.{Second, more_parameters, more_result}
 use Rattle.pas_types.proofs.headings.second_heading.Goals as goal

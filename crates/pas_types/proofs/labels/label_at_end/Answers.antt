@@ -1,7 +1,7 @@
 use Rattle.std.proofs.Common.{◌≡◌, ◌∙◌, sym, subst, ◌-◌, List, length, Some, None}
 use Rattle.std.specs.Prelude.{slice_get}
 use Rattle.pas_syntax.specs.declared.tree.MoreStatement.{MoreStatement}
-use Rattle.pas_types.proofs.LabelSeen.{end_seen, end_seen_first}
+use Rattle.pas_scopes.proofs.LabelSeen.{end_seen, end_seen_first}
 use Rattle.pas_types.proofs.labels.label_at_end.Goals as goal
 
 pub returns-in-Some : goal.returns-in-Some

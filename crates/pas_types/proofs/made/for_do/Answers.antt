@@ -3,7 +3,7 @@ use Rattle.pas_typed.specs.declared.typed.Counted.{Counted}
 use Rattle.pas_typed.specs.Typed as typed
 use Rattle.pas_typed.specs.TypedViews.{slot_view, value_view, statement_view}
 use Rattle.pas_typed.proofs.StatementViews.{statement_view-For}
-use Rattle.pas_types.specs.Statements.{list_of}
+use Rattle.pas_rules.specs.Statements.{list_of}
 use Rattle.pas_types.proofs.made.for_do.Goals as goal
 
 abbrev counting : Counted → typed.Statements → typed.Statement

@@ -3,7 +3,7 @@ use Rattle.pas_typed.specs.declared.typed.Value as code_value
 use Rattle.pas_typed.specs.Typed as typed
 use Rattle.pas_typed.specs.TypedViews.{value_view, statement_view}
 use Rattle.pas_typed.proofs.StatementViews.{statement_view-While}
-use Rattle.pas_types.specs.Statements.{list_of}
+use Rattle.pas_rules.specs.Statements.{list_of}
 use Rattle.pas_types.proofs.made.while_do.Goals as goal
 
 pub returns : goal.returns

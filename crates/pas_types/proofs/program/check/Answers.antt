@@ -4,12 +4,13 @@ use Rattle.wb_base.specs.declared.faults.WorkErr.{WorkErr}
 use Rattle.wb_base.specs.WorkResult.{IfFault}
 use Rattle.pas_syntax.specs.Tree.{Program}
 use Rattle.pas_syntax.specs.ProgramViews.{program_in}
+use Rattle.pas_typed.specs.declared.typed.TypedProgram.{TypedProgram}
 use Rattle.pas_typed.specs.TypedViews.{program_view}
-use Rattle.pas_types.specs.declared.stop.Stop.{Stop}
-use Rattle.pas_types.specs.declared.stop.Stop.TheVariants as stop
-use Rattle.pas_types.specs.Check.{Means, IsFaultOf}
+use Rattle.pas_scopes.specs.declared.stop.Stop.{Stop}
+use Rattle.pas_scopes.specs.declared.stop.Stop.TheVariants as stop
+use Rattle.pas_rules.specs.Check.{Means, IsFaultOf}
 use Rattle.pas_types.specs.inner.Programs.{FaultBy}
-use Rattle.pas_types.specs.inner.Stopping.{work_err}
+use Rattle.pas_scopes.specs.Stopping.{work_err}
 use Rattle.pas_types.proofs.program.check.Goals as goal
 
 fault_told : (X : Type 0) (program : Program) (why : Stop) → FaultBy program why
@@ -32,13 +33,17 @@ returns-in_err-program-clause-fault c =
     let is = err_from_is_err_and _ c.from_residual.ensures.1 in
     told_by read why c.from_residual.result (is.1 ∙ ap Err is.2) told
 
+pub of_checked-requires : goal.of_checked-requires
+of_checked-requires c = (
+  program_in c.args.program.now.spellings c.args.program.now.tree,
+  c.tree.ensures.of_text,
+  subst (λ (p : Program). Means p (program_view c.in_ok-program.program))
+  (λ i. program_in (c.spellings.ensures i) (c.tree.ensures.tree i)) c.in_ok-program.ensures,
+)
+
 pub returns-clause-ok : goal.returns-clause-ok
 returns-clause-ok c =
-    subst (λ (p : Program). Means p (program_view c.in_ok-program.program))
-    (λ i. program_in (c.spellings.ensures i) (c.tree.ensures.tree i)) c.in_ok-program.ensures
-
-pub invariant_of-result : goal.invariant_of-result
-invariant_of-result c = (
-  (program_in c.args.program.now.spellings c.args.program.now.tree, c.tree.ensures.of_text, returns-clause-ok c),
-  c.in_ok-files.ensures.1 ∙ c.len.ensures,
-)
+    let read : Program = program_in c.args.program.now.spellings c.args.program.now.tree in
+    subst (λ (found : TypedProgram). Means read (program_view found)) (sym c.in_ok-checked.ensures.1)
+    (subst (λ (p : Program). Means p (program_view c.in_ok-program.program))
+    (λ i. program_in (c.spellings.ensures i) (c.tree.ensures.tree i)) c.in_ok-program.ensures)

@@ -3,7 +3,7 @@ use Rattle.pas_syntax.specs.declared.tree.Ident.{Ident as CodeIdent}
 use Rattle.pas_syntax.specs.Tree.{Ident}
 use Rattle.pas_syntax.specs.Views.{ident_in}
 use Rattle.pas_typed.specs.TypedViews.{variable_view}
-use Rattle.pas_types.specs.Check.{file_numbers}
+use Rattle.pas_rules.specs.Check.{file_numbers}
 use Rattle.pas_types.proofs.BegunLemmas.{spelled_all}
 use Rattle.pas_types.proofs.programs.assembled.Goals as goal
 

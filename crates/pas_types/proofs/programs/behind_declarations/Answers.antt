@@ -3,7 +3,7 @@ use Rattle.std.proofs.lemmas.Result.{err_from_is_err_and}
 use Rattle.pas_syntax.specs.Tree.{Program}
 use Rattle.pas_syntax.specs.ProgramViews.{program_in}
 use Rattle.pas_typed.specs.TypedViews.{statements_view}
-use Rattle.pas_types.specs.declared.scopes.Scopes.{Scopes as CodeScopes}
+use Rattle.pas_scopes.specs.declared.scopes.Scopes.{Scopes as CodeScopes}
 use Rattle.pas_types.proofs.WholeLemmas.{head_stops, noted_stops, clear_whole, alone_whole, labels_whole, main_whole}
 use Rattle.pas_types.proofs.WholeLemmas.{faultless_stop}
 use Rattle.pas_types.proofs.programs.behind_declarations.Goals as goal

@@ -1,8 +1,8 @@
 use Rattle.std.proofs.Common.{◌≡◌, sym, ap, ◌∙◌, ℕ, List}
 use Rattle.std.specs.Option.{option_copied}
 use Rattle.pas_syntax.specs.declared.tree.ProgramTree.{ProgramTree}
-use Rattle.pas_types.specs.declared.scopes.KnownRoutine.{KnownRoutine as CodeKnown}
-use Rattle.pas_types.specs.declared.scopes.Scopes.{Scopes as CodeScopes}
+use Rattle.pas_scopes.specs.declared.scopes.KnownRoutine.{KnownRoutine as CodeKnown}
+use Rattle.pas_scopes.specs.declared.scopes.Scopes.{Scopes as CodeScopes}
 use Rattle.pas_types.proofs.WholeLemmas.{constants_by, types_by, variables_by, routines_by, goes_over, if_ok}
 use Rattle.pas_types.proofs.programs.declarations_of.Goals as goal
 

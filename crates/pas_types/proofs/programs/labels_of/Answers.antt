@@ -4,10 +4,10 @@ use Rattle.pas_syntax.specs.Views.{if_there}
 use Rattle.pas_syntax.specs.ProgramViews.{labels_in}
 use Rattle.pas_syntax.specs.Words.{words_if, labels_words}
 use Rattle.std.specs.Option.{option_copied}
-use Rattle.pas_types.specs.Declarations.{label_marks}
-use Rattle.pas_types.specs.inner.Declared.{Notes}
+use Rattle.pas_rules.specs.Declarations.{label_marks}
+use Rattle.pas_scopes.specs.DeclaredSoFar.{Notes}
 use Rattle.pas_types.specs.inner.Programs.{LabelsIf}
-use Rattle.pas_types.proofs.DeclaredLemmas.{notes_quiet}
+use Rattle.pas_scopes.proofs.DeclaredLemmas.{notes_quiet}
 use Rattle.pas_types.proofs.WholeLemmas.{labels_if, fails_noted, fails_if}
 use Rattle.pas_types.proofs.programs.labels_of.Goals as goal
 

@@ -4,7 +4,7 @@ use Rattle.std.proofs.lemmas.Result.{err_from_is_err_and}
 use Rattle.pas_syntax.specs.declared.tree.ProgramTree.{ProgramTree}
 use Rattle.pas_syntax.specs.ProgramViews.{program_in}
 use Rattle.pas_typed.specs.TypedViews.{program_view}
-use Rattle.pas_types.specs.declared.scopes.Scopes.{Scopes as CodeScopes}
+use Rattle.pas_scopes.specs.declared.scopes.Scopes.{Scopes as CodeScopes}
 use Rattle.pas_types.specs.inner.Programs.{FaultBy}
 use Rattle.pas_types.proofs.WholeLemmas.{checks_stop, assembles}
 use Rattle.pas_types.proofs.TypedLemmas.{whole_over, new_same, whole_comes, whole_stops, whole_list}

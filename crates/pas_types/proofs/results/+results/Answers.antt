@@ -4,8 +4,8 @@ use Rattle.pas_typed.specs.TypedViews.{statement_view}
 use Rattle.pas_typed.proofs.StatementViews.{statement_view-Compound, statement_view-If, statement_view-IfElse}
 use Rattle.pas_typed.proofs.StatementViews.{statement_view-Case, statement_view-CaseOthers, statement_view-While}
 use Rattle.pas_typed.proofs.StatementViews.{statement_view-Repeat, statement_view-For}
-use Rattle.pas_types.specs.Routines.{gives_result}
-use Rattle.pas_types.proofs.LabelSeen.{taken_all}
+use Rattle.pas_rules.specs.Routines.{gives_result}
+use Rattle.pas_scopes.proofs.LabelSeen.{taken_all}
 use Rattle.pas_types.proofs.ResultLemmas.{list_gives, arms_give, item_has, item_lacks, arm_has, arm_lacks}
 use Rattle.pas_types.proofs.results.+results.Goals as goal
 

@@ -1,6 +1,6 @@
 use Rattle.std.proofs.Common.{◌≡◌, false, ℕ, List, take}
 use Rattle.pas_typed.specs.TypedViews.{statements_view, arms_view}
-use Rattle.pas_types.specs.Routines.{list_gives_result, arm_gives_result}
+use Rattle.pas_rules.specs.Routines.{list_gives_result, arm_gives_result}
 use Rattle.pas_types.proofs.results.+results.Given as goal
 
 abbrev pub invariant-list_gives_result-loop-labelled : goal.invariant-list_gives_result-loop-labelled

@@ -5,11 +5,11 @@ use Rattle.pas_syntax.specs.declared.tree.Body.{Body as CodeBodyTree}
 use Rattle.pas_syntax.specs.Views.{if_there}
 use Rattle.pas_syntax.specs.ProgramViews.{body_in, labels_in, variable_row_in, rows_in, compound_in}
 use Rattle.pas_typed.specs.TypedViews.{body_view}
-use Rattle.pas_types.specs.declared.scopes.Scopes.{Scopes as CodeScopes}
-use Rattle.pas_types.specs.declared.stop.Stop.{Stop}
-use Rattle.pas_types.specs.inner.Stopping.{demanded}
+use Rattle.pas_scopes.specs.declared.scopes.Scopes.{Scopes as CodeScopes}
+use Rattle.pas_scopes.specs.declared.stop.Stop.{Stop}
+use Rattle.pas_scopes.specs.Stopping.{demanded}
 use Rattle.pas_types.specs.inner.RoutineAnswers.{sort_view, awaited_at}
-use Rattle.pas_types.proofs.LocalRowLemmas.{stopped}
+use Rattle.pas_scopes.proofs.LocalRowLemmas.{stopped}
 use Rattle.pas_types.proofs.RoutineSteps.{Whole, some_of, forward_fails, forward_goes, block_fails, block_goes}
 use Rattle.pas_types.proofs.routines.body_behind.Goals as goal
 

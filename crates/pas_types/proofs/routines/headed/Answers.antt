@@ -1,12 +1,13 @@
 use Rattle.std.proofs.Common.{sym, subst, ℕ, Option, IfSome, IsSome, Ok, Err}
 use Rattle.std.proofs.lemmas.Result.{err_from_is_err_and}
 use Rattle.pas_syntax.specs.Views.{spelled_in}
-use Rattle.pas_types.specs.declared.scopes.Scopes.{Scopes as CodeScopes}
-use Rattle.pas_types.specs.declared.stop.Stop.{Stop}
-use Rattle.pas_types.specs.Routines.{HeadingParts, headed_by}
-use Rattle.pas_types.specs.ScopeViews.{outer_view}
-use Rattle.pas_types.specs.inner.RoutineAnswers.{parts_in, parts_words, awaited_at, HeadsBy}
-use Rattle.pas_types.proofs.LocalRowLemmas.{stopped}
+use Rattle.pas_scopes.specs.declared.scopes.Scopes.{Scopes as CodeScopes}
+use Rattle.pas_scopes.specs.declared.stop.Stop.{Stop}
+use Rattle.pas_rules.specs.Routines.{HeadingParts, headed_by}
+use Rattle.pas_scopes.specs.ScopeViews.{outer_view}
+use Rattle.pas_types.specs.inner.RoutineAnswers.{parts_in, awaited_at, HeadsBy}
+use Rattle.pas_rules.specs.HeadingWords.{parts_words}
+use Rattle.pas_scopes.proofs.LocalRowLemmas.{stopped}
 use Rattle.pas_types.proofs.RoutineSteps.{second_heads, first_named}
 use Rattle.pas_types.proofs.routines.headed.Goals as goal
 

@@ -2,8 +2,8 @@ use Rattle.std.proofs.Common.{sym, ap, subst, [], Option}
 use Rattle.wb_base.specs.declared.faults.Fault.{Fault}
 use Rattle.pas_syntax.specs.Tree.{Routine}
 use Rattle.pas_syntax.specs.ProgramViews.{routine_in}
-use Rattle.pas_types.specs.declared.scopes.Scopes.{Scopes as CodeScopes}
-use Rattle.pas_types.specs.ScopeViews.{outer_view}
+use Rattle.pas_scopes.specs.declared.scopes.Scopes.{Scopes as CodeScopes}
+use Rattle.pas_scopes.specs.ScopeViews.{outer_view}
 use Rattle.pas_types.proofs.ThroughLemmas.{Stepped, name_alone}
 use Rattle.pas_types.proofs.routines.next_routine.Goals as goal
 

@@ -5,15 +5,15 @@ use Rattle.pas_syntax.specs.Tree as tree
 use Rattle.pas_syntax.specs.Words.{at, body_words, routine_words}
 use Rattle.pas_syntax.specs.ProgramViews.{body_in, routine_in}
 use Rattle.pas_typed.specs.TypedViews.{body_view}
-use Rattle.pas_types.specs.declared.scopes.Scopes.{Scopes as CodeScopes}
-use Rattle.pas_types.specs.declared.stop.Stop.{Stop}
-use Rattle.pas_types.specs.Scopes.{Outer}
-use Rattle.pas_types.specs.Routines.{HeadingParts, routine_by, routine_of}
-use Rattle.pas_types.specs.ScopeViews.{outer_view}
+use Rattle.pas_scopes.specs.declared.scopes.Scopes.{Scopes as CodeScopes}
+use Rattle.pas_scopes.specs.declared.stop.Stop.{Stop}
+use Rattle.pas_rules.specs.Scopes.{Outer}
+use Rattle.pas_rules.specs.Routines.{HeadingParts, routine_by, routine_of}
+use Rattle.pas_scopes.specs.ScopeViews.{outer_view}
 use Rattle.pas_types.specs.inner.RoutineAnswers.{parts_in}
 use Rattle.pas_types.specs.inner.BlockAnswers.{IsRoutine}
 use Rattle.pas_types.specs.inner.LabelViews.{numbers_of}
-use Rattle.pas_types.proofs.LocalRowLemmas.{stopped}
+use Rattle.pas_scopes.proofs.LocalRowLemmas.{stopped}
 use Rattle.pas_types.proofs.RoutineSteps.{head_fails, routine_answer, head_words, head_stage, first, second_is}
 use Rattle.pas_types.proofs.routines.routine_of.Goals as goal
 

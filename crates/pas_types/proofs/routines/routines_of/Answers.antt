@@ -5,8 +5,8 @@ use Rattle.pas_syntax.specs.Tree.{Routine}
 use Rattle.pas_syntax.specs.Words.{routine_words}
 use Rattle.pas_syntax.specs.ProgramViews.{routine_in}
 use Rattle.pas_syntax.specs.declared.tree.Routine.{Routine as CodeRoutine}
-use Rattle.pas_types.specs.declared.scopes.Scopes.{Scopes as CodeScopes}
-use Rattle.pas_types.specs.Routines.{routine_of}
+use Rattle.pas_scopes.specs.declared.scopes.Scopes.{Scopes as CodeScopes}
+use Rattle.pas_rules.specs.Routines.{routine_of}
 use Rattle.pas_types.specs.inner.RoutineStands.{Steps}
 use Rattle.pas_types.proofs.ThroughLemmas.{Leads, Stepped, leads_more, leads_all, goes_through}
 use Rattle.pas_types.proofs.routines.routines_of.Goals as goal

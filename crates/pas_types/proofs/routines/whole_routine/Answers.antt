@@ -5,13 +5,13 @@ use Rattle.pas_syntax.specs.Tree.{Routine}
 use Rattle.pas_syntax.specs.Words.{routine_words}
 use Rattle.pas_syntax.specs.ProgramViews.{routine_in}
 use Rattle.pas_typed.specs.TypeViews.{table_view}
-use Rattle.pas_types.specs.declared.scopes.Scopes.{Scopes as CodeScopes}
-use Rattle.pas_types.specs.declared.stop.Stop.{Stop}
-use Rattle.pas_types.specs.Scopes.{unclear}
-use Rattle.pas_types.specs.Routines.{routine_of}
-use Rattle.pas_types.specs.NameViews.{with_new}
-use Rattle.pas_types.specs.ScopeViews.{outer_view}
-use Rattle.pas_types.specs.inner.Answers.{FailsBy}
+use Rattle.pas_scopes.specs.declared.scopes.Scopes.{Scopes as CodeScopes}
+use Rattle.pas_scopes.specs.declared.stop.Stop.{Stop}
+use Rattle.pas_rules.specs.Scopes.{unclear}
+use Rattle.pas_rules.specs.Routines.{routine_of}
+use Rattle.pas_rules.specs.Scopes.{with_new}
+use Rattle.pas_scopes.specs.ScopeViews.{outer_view}
+use Rattle.pas_scopes.specs.Answers.{FailsBy}
 use Rattle.pas_types.proofs.FollowRoutines.{head_name}
 use Rattle.pas_types.proofs.ThroughLemmas.{Stepped, goes_on, first_shown}
 use Rattle.pas_types.proofs.routines.whole_routine.Goals as goal

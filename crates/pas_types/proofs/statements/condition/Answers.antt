@@ -8,11 +8,11 @@ use Rattle.pas_typed.specs.Types.{boolean, is_of, PasType}
 use Rattle.pas_typed.specs.Typed.{Value}
 use Rattle.pas_typed.specs.TypeViews.{table_view}
 use Rattle.pas_typed.specs.TypedViews.{value_view}
-use Rattle.pas_types.specs.Marks.{Judged, checked, unless}
-use Rattle.pas_types.specs.Expressions.{only, value_of}
-use Rattle.pas_types.specs.ScopeViews.{scopes_view}
-use Rattle.pas_types.proofs.AnswerLemmas.{checked_stops_by}
-use Rattle.pas_types.proofs.SettleLemmas.{settles_stop, settles_why}
+use Rattle.pas_rules.specs.Marks.{Judged, checked, unless}
+use Rattle.pas_rules.specs.Expressions.{only, value_of}
+use Rattle.pas_scopes.specs.ScopeViews.{scopes_view}
+use Rattle.pas_scopes.proofs.AnswerLemmas.{checked_stops_by}
+use Rattle.pas_scopes.proofs.SettleLemmas.{settles_stop, settles_why}
 use Rattle.pas_types.proofs.statements.condition.Goals as goal
 
 pub returns-in_err-found : goal.returns-in_err-found

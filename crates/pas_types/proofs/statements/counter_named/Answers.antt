@@ -5,11 +5,11 @@ use Rattle.pas_syntax.specs.Words.{Word, name_at}
 use Rattle.pas_typed.specs.Types.{Table}
 use Rattle.pas_typed.specs.TypeViews.{table_view}
 use Rattle.pas_typed.specs.TypedViews.{slot_view}
-use Rattle.pas_types.specs.declared.names.Entity.{Entity as CodeEntity}
-use Rattle.pas_types.specs.Scopes.{Entity, entity_of, variable}
-use Rattle.pas_types.specs.Statements.{for_variable}
-use Rattle.pas_types.specs.NameViews.{entity_view}
-use Rattle.pas_types.specs.ScopeViews.{scopes_view}
+use Rattle.pas_scopes.specs.declared.names.Entity.{Entity as CodeEntity}
+use Rattle.pas_rules.specs.Scopes.{Entity, entity_of, variable}
+use Rattle.pas_rules.specs.Statements.{for_variable}
+use Rattle.pas_scopes.specs.NameViews.{entity_view}
+use Rattle.pas_scopes.specs.ScopeViews.{scopes_view}
 use Rattle.pas_types.specs.inner.FlowViews.{ShowsBefore}
 use Rattle.pas_types.proofs.TargetLemmas.{precedes_stop, counter_refused}
 use Rattle.pas_types.proofs.statements.counter_named.Goals as goal

@@ -4,7 +4,7 @@ use Rattle.pas_typed.specs.declared.typed.Mode.{Mode as CodeMode}
 use Rattle.pas_typed.specs.Types.{Range, range_of}
 use Rattle.pas_typed.specs.TypeViews.{range_view, type_view, table_view}
 use Rattle.pas_typed.specs.TypedViews.{mode_view}
-use Rattle.pas_types.specs.Statements.{is_declared}
+use Rattle.pas_rules.specs.Statements.{is_declared}
 use Rattle.pas_types.proofs.FlowLemmas.{is_some_map}
 use Rattle.pas_types.proofs.statements.counts.Goals as goal
 

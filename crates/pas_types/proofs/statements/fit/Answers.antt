@@ -1,8 +1,8 @@
 use Rattle.std.proofs.Common.{◌∙◌}
 use Rattle.wb_base.specs.declared.faults.TheConstants.{WRONG_TYPE}
 use Rattle.pas_typed.specs.TypedViews.{value_view}
-use Rattle.pas_types.specs.inner.Answers.{end_in, noted_end, settled_by}
-use Rattle.pas_types.proofs.SettleLemmas.{settles_checked}
+use Rattle.pas_scopes.specs.Answers.{end_in, noted_end, settled_by}
+use Rattle.pas_scopes.proofs.SettleLemmas.{settles_checked}
 use Rattle.pas_types.proofs.ChainLemmas.{settled_value, settled_holds}
 use Rattle.pas_types.proofs.statements.fit.Goals as goal
 

@@ -8,12 +8,12 @@ use Rattle.pas_typed.specs.Types.{are_compatible, PasType}
 use Rattle.pas_typed.specs.Typed.{Value}
 use Rattle.pas_typed.specs.TypeViews.{type_view, table_view}
 use Rattle.pas_typed.specs.TypedViews.{slot_view, value_view}
-use Rattle.pas_types.specs.Marks.{Judged, checked, unless}
-use Rattle.pas_types.specs.Expressions.{value_of}
-use Rattle.pas_types.specs.Statements.{fits_slot}
-use Rattle.pas_types.specs.ScopeViews.{scopes_view}
-use Rattle.pas_types.proofs.AnswerLemmas.{checked_stops_by}
-use Rattle.pas_types.proofs.SettleLemmas.{settles_stop, settles_why}
+use Rattle.pas_rules.specs.Marks.{Judged, checked, unless}
+use Rattle.pas_rules.specs.Expressions.{value_of}
+use Rattle.pas_rules.specs.Statements.{fits_slot}
+use Rattle.pas_scopes.specs.ScopeViews.{scopes_view}
+use Rattle.pas_scopes.proofs.AnswerLemmas.{checked_stops_by}
+use Rattle.pas_scopes.proofs.SettleLemmas.{settles_stop, settles_why}
 use Rattle.pas_types.proofs.statements.limit_of.Goals as goal
 
 pub returns-in_err-found : goal.returns-in_err-found

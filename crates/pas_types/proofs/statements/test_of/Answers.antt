@@ -1,8 +1,8 @@
 use Rattle.pas_syntax.specs.Views.{expr_in}
 use Rattle.pas_syntax.specs.Words.{expr_words}
 use Rattle.pas_typed.specs.TypedViews.{value_view}
-use Rattle.pas_types.specs.Statements.{test_of}
-use Rattle.pas_types.specs.ScopeViews.{scopes_view}
+use Rattle.pas_rules.specs.Statements.{test_of}
+use Rattle.pas_scopes.specs.ScopeViews.{scopes_view}
 use Rattle.pas_types.proofs.ChainLemmas.{preceded}
 use Rattle.pas_types.proofs.statements.test_of.Goals as goal
 

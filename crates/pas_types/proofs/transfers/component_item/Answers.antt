@@ -4,12 +4,12 @@ use Rattle.pas_syntax.specs.ProgramViews.{argument_in}
 use Rattle.pas_syntax.specs.Words.{Word, expr_words}
 use Rattle.pas_typed.specs.Typed.{Value}
 use Rattle.pas_typed.specs.TypedViews.{value_view}
-use Rattle.pas_types.specs.Marks.{Judged, checked}
-use Rattle.pas_types.specs.Calls.{component_demand}
-use Rattle.pas_types.specs.Expressions.{value_of}
-use Rattle.pas_types.specs.ScopeViews.{scopes_view}
-use Rattle.pas_types.specs.inner.Answers.{end_in}
-use Rattle.pas_types.proofs.AnswerLemmas.{stands_stop, stops_fails, checked_stops_by}
+use Rattle.pas_rules.specs.Marks.{Judged, checked}
+use Rattle.pas_rules.specs.Calls.{component_demand}
+use Rattle.pas_rules.specs.Expressions.{value_of}
+use Rattle.pas_scopes.specs.ScopeViews.{scopes_view}
+use Rattle.pas_scopes.specs.Answers.{end_in}
+use Rattle.pas_scopes.proofs.AnswerLemmas.{stands_stop, stops_fails, checked_stops_by}
 use Rattle.pas_types.proofs.TransferLemmas.{widened, widened_words, widened_fails, width_fails, width_stands}
 use Rattle.pas_types.proofs.transfers.component_item.Goals as goal
 

@@ -5,10 +5,10 @@ use Rattle.pas_tokens.specs.Cutting.{wrong}
 use Rattle.pas_typed.specs.Types.{Table, are_compatible}
 use Rattle.pas_typed.specs.TypeViews.{table_view}
 use Rattle.pas_typed.specs.TypedViews.{value_view}
-use Rattle.pas_types.specs.Marks.{checked, unless}
-use Rattle.pas_types.specs.Calls.{component_demand}
-use Rattle.pas_types.specs.inner.Answers.{end_in}
-use Rattle.pas_types.proofs.AnswerLemmas.{stands_stop}
+use Rattle.pas_rules.specs.Marks.{checked, unless}
+use Rattle.pas_rules.specs.Calls.{component_demand}
+use Rattle.pas_scopes.specs.Answers.{end_in}
+use Rattle.pas_scopes.proofs.AnswerLemmas.{stands_stop}
 use Rattle.pas_types.proofs.TransferLemmas.{noted_fails, noted_stands}
 use Rattle.pas_types.proofs.transfers.component_only.Goals as goal
 

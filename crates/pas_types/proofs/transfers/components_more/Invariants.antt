@@ -6,9 +6,9 @@ use Rattle.pas_typed.specs.Typed.{Value}
 use Rattle.pas_typed.specs.TypeViews.{type_view}
 use Rattle.pas_typed.specs.TypedViews.{value_view}
 use Rattle.pas_types.specs.inner.Transfers.{component_of_item}
-use Rattle.pas_types.specs.ScopeViews.{scopes_view, IsClear}
-use Rattle.pas_types.specs.inner.Answers.{IsQuiet}
-use Rattle.pas_types.specs.inner.Listed.{Item, item_words, items_marks, items_behind, Gathered}
+use Rattle.pas_scopes.specs.ScopeViews.{scopes_view, IsClear}
+use Rattle.pas_scopes.specs.Answers.{IsQuiet}
+use Rattle.pas_scopes.specs.inner.Listed.{Item, item_words, items_marks, items_behind, Gathered}
 use Rattle.std.proofs.Common.{[], ◌∷◌, false}
 use Rattle.pas_types.proofs.transfers.components_more.Given as goal
 

@@ -7,12 +7,12 @@ use Rattle.pas_syntax.specs.Words.{Word, expr_words}
 use Rattle.pas_typed.specs.declared.typed.Place as code_place
 use Rattle.pas_typed.specs.Typed.{Value, read}
 use Rattle.pas_typed.specs.TypedViews.{place_view}
-use Rattle.pas_types.specs.Marks.{Judged, checked, unless}
-use Rattle.pas_types.specs.Calls.{demand_on_file}
-use Rattle.pas_types.specs.Expressions.{Demand, value_of}
-use Rattle.pas_types.specs.inner.Answers.{Ending, end_in, StandsAs}
+use Rattle.pas_rules.specs.Marks.{Judged, checked, unless}
+use Rattle.pas_rules.specs.Calls.{demand_on_file}
+use Rattle.pas_rules.specs.Expressions.{Demand, value_of}
+use Rattle.pas_scopes.specs.Answers.{Ending, end_in, StandsAs}
 use Rattle.pas_types.specs.inner.Transfers.{extent_view}
-use Rattle.pas_types.proofs.AnswerLemmas.{stands_stop}
+use Rattle.pas_scopes.proofs.AnswerLemmas.{stands_stop}
 use Rattle.pas_types.proofs.FileLemmas.{ruled_fails, ruled_stands}
 use Rattle.pas_types.proofs.TransferLemmas.{widened, widened_words, widened_fails, width_fails, width_stands}
 use Rattle.pas_types.proofs.transfers.file_only.Goals as goal

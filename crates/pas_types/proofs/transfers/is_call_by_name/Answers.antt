@@ -6,8 +6,8 @@ use Rattle.pas_typed.specs.Typed.{Passed, call}
 use Rattle.pas_typed.specs.TypeViews.{type_view}
 use Rattle.pas_typed.specs.TypedViews.{value_view, passed_view, passed_views}
 use Rattle.pas_typed.proofs.ValueViews.{passed_view-Value, passed_view-Reference}
-use Rattle.pas_types.specs.Calls.{is_call_by_name}
-use Rattle.pas_types.proofs.FitLemmas.{call_viewed}
+use Rattle.pas_rules.specs.Calls.{is_call_by_name}
+use Rattle.pas_scopes.proofs.FitLemmas.{call_viewed}
 use Rattle.pas_types.proofs.TransferLemmas.{first_passed, none_passed}
 use Rattle.pas_types.proofs.transfers.is_call_by_name.Goals as goal
 

@@ -1,5 +1,5 @@
 use Rattle.std.proofs.Common.{rules, arith}
-use Rattle.pas_types.proofs.ConstantLemmas.{short_none, short_one, short_two, long_two, long_many}
+use Rattle.pas_scopes.proofs.ConstantLemmas.{short_none, short_one, short_two, long_two, long_many}
 use Rattle.pas_types.proofs.transfers.is_long.Goals as goal
 
 pub returns-in-0 : goal.returns-in-0

@@ -4,7 +4,7 @@ use Rattle.pas_typed.specs.Types.{integer, is_of}
 use Rattle.pas_typed.specs.TypeOf.{type_of}
 use Rattle.pas_typed.specs.TypeViews.{table_view}
 use Rattle.pas_typed.specs.TypedViews.{value_view}
-use Rattle.pas_types.specs.Calls.{is_call_by_name}
+use Rattle.pas_rules.specs.Calls.{is_call_by_name}
 use Rattle.pas_types.proofs.transfers.is_number.Goals as goal
 
 pub returns-then-is_of : goal.returns-then-is_of

@@ -7,10 +7,10 @@ use Rattle.pas_syntax.specs.Words.{at}
 use Rattle.pas_typed.specs.declared.typed.Item.{Item as CodeItem}
 use Rattle.pas_typed.specs.TypedViews.{item_view}
 use Rattle.pas_types.specs.inner.Transfers.{item_written}
-use Rattle.pas_types.specs.ScopeViews.{scopes_view}
-use Rattle.pas_types.specs.inner.Listed.{items_behind, Gathered}
-use Rattle.pas_types.proofs.ExprCalls.{taken_split}
-use Rattle.pas_types.proofs.LabelSeen.{taken_more, taken_all}
+use Rattle.pas_scopes.specs.ScopeViews.{scopes_view}
+use Rattle.pas_scopes.specs.inner.Listed.{items_behind, Gathered}
+use Rattle.pas_scopes.proofs.ExprCalls.{taken_split}
+use Rattle.pas_scopes.proofs.LabelSeen.{taken_more, taken_all}
 use Rattle.pas_types.proofs.GatherLemmas.{line_moved, more_fails, more_short, one_more}
 use Rattle.pas_types.proofs.GatherLemmas.{gathers_stop}
 use Rattle.pas_types.proofs.TransferItems.{written_many}

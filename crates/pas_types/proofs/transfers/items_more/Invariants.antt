@@ -3,9 +3,9 @@ use Rattle.pas_syntax.specs.Words.{Word}
 use Rattle.pas_typed.specs.Typed.{Item as SpecItem}
 use Rattle.pas_typed.specs.TypedViews.{item_view}
 use Rattle.pas_types.specs.inner.Transfers.{item_written}
-use Rattle.pas_types.specs.ScopeViews.{scopes_view, IsClear}
-use Rattle.pas_types.specs.inner.Answers.{IsQuiet}
-use Rattle.pas_types.specs.inner.Listed.{Item, item_words, items_marks, items_behind, Gathered}
+use Rattle.pas_scopes.specs.ScopeViews.{scopes_view, IsClear}
+use Rattle.pas_scopes.specs.Answers.{IsQuiet}
+use Rattle.pas_scopes.specs.inner.Listed.{Item, item_words, items_marks, items_behind, Gathered}
 use Rattle.std.proofs.Common.{[], ◌∷◌, false}
 use Rattle.pas_types.proofs.transfers.items_more.Given as goal
 

@@ -4,9 +4,9 @@ use Rattle.pas_syntax.specs.Tree.{Factor}
 use Rattle.pas_syntax.specs.Views.{factor_in}
 use Rattle.pas_syntax.proofs.ExprViews.{literal_view, text_view, parenthesized_view, negated_view, variable_view}
 use Rattle.pas_syntax.proofs.ExprViews.{call_view}
-use Rattle.pas_types.specs.Calls.{text_in}
+use Rattle.pas_rules.specs.Calls.{text_in}
 use Rattle.pas_types.specs.inner.Transfers.{IsLongText}
-use Rattle.pas_types.proofs.ExprSeen.{call_out}
+use Rattle.pas_scopes.proofs.ExprSeen.{call_out}
 use Rattle.pas_types.proofs.transfers.long_factor.Goals as goal
 
 pub returns-in-Text : goal.returns-in-Text

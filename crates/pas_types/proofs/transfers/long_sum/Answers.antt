@@ -3,9 +3,9 @@ use Rattle.pas_syntax.specs.Tree as tree
 use Rattle.pas_syntax.specs.Tree.{Sum}
 use Rattle.pas_syntax.specs.Views.{sum_in}
 use Rattle.pas_syntax.proofs.ExprViews.{first_term_view, signed_term_view}
-use Rattle.pas_types.specs.Calls.{text_in}
+use Rattle.pas_rules.specs.Calls.{text_in}
 use Rattle.pas_types.specs.inner.Transfers.{IsLongText}
-use Rattle.pas_types.proofs.ExprSeen.{more_terms_seen}
+use Rattle.pas_scopes.proofs.ExprSeen.{more_terms_seen}
 use Rattle.pas_types.proofs.transfers.long_sum.Goals as goal
 
 pub returns-in-FirstTerm : goal.returns-in-FirstTerm

@@ -3,9 +3,9 @@ use Rattle.pas_syntax.specs.Tree as tree
 use Rattle.pas_syntax.specs.Tree.{Term}
 use Rattle.pas_syntax.specs.Views.{term_in}
 use Rattle.pas_syntax.proofs.ExprViews.{first_factor_view}
-use Rattle.pas_types.specs.Calls.{text_in}
+use Rattle.pas_rules.specs.Calls.{text_in}
 use Rattle.pas_types.specs.inner.Transfers.{IsLongText}
-use Rattle.pas_types.proofs.ExprSeen.{more_factors_seen}
+use Rattle.pas_scopes.proofs.ExprSeen.{more_factors_seen}
 use Rattle.pas_types.proofs.transfers.long_term.Goals as goal
 
 pub returns-in-FirstFactor : goal.returns-in-FirstFactor

@@ -2,7 +2,7 @@ use Rattle.std.proofs.Common.{◌≡◌, refl, sym, ap, subst, ◌∙◌, None}
 use Rattle.pas_syntax.specs.Tree.{Expr}
 use Rattle.pas_syntax.specs.Views.{expr_in}
 use Rattle.pas_syntax.proofs.ExprViews.{sum_view, relation_view}
-use Rattle.pas_types.specs.Calls.{text_in}
+use Rattle.pas_rules.specs.Calls.{text_in}
 use Rattle.pas_types.specs.inner.Transfers.{IsLongText}
 use Rattle.pas_types.proofs.transfers.long_text.Goals as goal
 

@@ -1,7 +1,7 @@
 use Rattle.pas_syntax.specs.Views.{expr_in}
 use Rattle.pas_syntax.specs.Words.{expr_words}
-use Rattle.pas_types.specs.Expressions.{value_of}
-use Rattle.pas_types.specs.ScopeViews.{scopes_view}
+use Rattle.pas_rules.specs.Expressions.{value_of}
+use Rattle.pas_scopes.specs.ScopeViews.{scopes_view}
 use Rattle.pas_types.proofs.FileLemmas.{stopped_unnamed}
 use Rattle.pas_types.proofs.transfers.named_file.Goals as goal
 

@@ -8,13 +8,13 @@ use Rattle.pas_syntax.specs.Words.{Word, expr_words}
 use Rattle.pas_syntax.specs.Tree.{Behind, Expr}
 use Rattle.pas_typed.specs.Typed.{Value, Item}
 use Rattle.pas_typed.specs.TypedViews.{value_view, item_view}
-use Rattle.pas_types.specs.Marks.{Judged, checked}
-use Rattle.pas_types.specs.Calls.{printed_only, item_of}
-use Rattle.pas_types.specs.Expressions.{value_of}
-use Rattle.pas_types.specs.ScopeViews.{scopes_view}
-use Rattle.pas_types.specs.inner.Answers.{end_in, Stands, StandsAs}
-use Rattle.pas_types.proofs.AnswerLemmas.{stands_stop, stops_fails, checked_stops_by}
-use Rattle.pas_types.proofs.CallAnswers.{settled_is}
+use Rattle.pas_rules.specs.Marks.{Judged, checked}
+use Rattle.pas_rules.specs.Calls.{printed_only, item_of}
+use Rattle.pas_rules.specs.Expressions.{value_of}
+use Rattle.pas_scopes.specs.ScopeViews.{scopes_view}
+use Rattle.pas_scopes.specs.Answers.{end_in, Stands, StandsAs}
+use Rattle.pas_scopes.proofs.AnswerLemmas.{stands_stop, stops_fails, checked_stops_by}
+use Rattle.pas_scopes.proofs.CallAnswers.{settled_is}
 use Rattle.pas_types.proofs.PrintLemmas.{printed, printed_words, printed_fails, printed_unsettled, printed_width}
 use Rattle.pas_types.proofs.PrintLemmas.{printed_stands, printed_alone}
 use Rattle.pas_types.proofs.transfers.printed_item.Goals as goal

@@ -6,10 +6,10 @@ use Rattle.std.specs.Prelude.{◌||◌}
 use Rattle.pas_typed.specs.Types.{Table, PasType, integer, char, is_of}
 use Rattle.pas_typed.specs.TypeViews.{table_view}
 use Rattle.pas_typed.specs.TypedViews.{value_view}
-use Rattle.pas_types.specs.Marks.{checked, unless}
-use Rattle.pas_types.specs.Calls.{printed_only}
-use Rattle.pas_types.specs.inner.Answers.{end_in}
-use Rattle.pas_types.proofs.AnswerLemmas.{stands_stop}
+use Rattle.pas_rules.specs.Marks.{checked, unless}
+use Rattle.pas_rules.specs.Calls.{printed_only}
+use Rattle.pas_scopes.specs.Answers.{end_in}
+use Rattle.pas_scopes.proofs.AnswerLemmas.{stands_stop}
 use Rattle.pas_types.proofs.TransferLemmas.{noted_fails, noted_stands}
 use Rattle.pas_types.proofs.transfers.printed_only.Goals as goal
 

@@ -4,13 +4,13 @@ use Rattle.pas_syntax.specs.ProgramViews.{argument_in}
 use Rattle.pas_syntax.specs.Words.{Word, expr_words}
 use Rattle.pas_typed.specs.Typed.{Value, Place}
 use Rattle.pas_typed.specs.TypedViews.{place_view}
-use Rattle.pas_types.specs.Marks.{Judged, checked}
-use Rattle.pas_types.specs.Calls.{read_demand}
-use Rattle.pas_types.specs.Expressions.{value_of}
-use Rattle.pas_types.specs.ScopeViews.{scopes_view}
-use Rattle.pas_types.specs.inner.Answers.{end_in, StandsAs, Stands}
+use Rattle.pas_rules.specs.Marks.{Judged, checked}
+use Rattle.pas_rules.specs.Calls.{read_demand}
+use Rattle.pas_rules.specs.Expressions.{value_of}
+use Rattle.pas_scopes.specs.ScopeViews.{scopes_view}
+use Rattle.pas_scopes.specs.Answers.{end_in, StandsAs, Stands}
 use Rattle.pas_types.specs.inner.Transfers.{place_by}
-use Rattle.pas_types.proofs.AnswerLemmas.{stands_stop, stops_fails, checked_stops_by}
+use Rattle.pas_scopes.proofs.AnswerLemmas.{stands_stop, stops_fails, checked_stops_by}
 use Rattle.pas_types.proofs.TransferLemmas.{widened, widened_words, widened_fails, width_fails, width_stands, read_seen}
 use Rattle.pas_types.proofs.transfers.read_item.Goals as goal
 

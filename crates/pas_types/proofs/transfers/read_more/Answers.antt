@@ -7,11 +7,11 @@ use Rattle.pas_tokens.specs.declared.kinds.Kind.TheVariants as k
 use Rattle.pas_syntax.specs.Words.{at}
 use Rattle.pas_typed.specs.declared.typed.Place as code_place
 use Rattle.pas_typed.specs.TypedViews.{place_view}
-use Rattle.pas_types.specs.Calls.{read_item}
-use Rattle.pas_types.specs.ScopeViews.{scopes_view}
-use Rattle.pas_types.specs.inner.Listed.{items_behind, Gathered}
-use Rattle.pas_types.proofs.ExprCalls.{taken_split}
-use Rattle.pas_types.proofs.LabelSeen.{taken_more, taken_all}
+use Rattle.pas_rules.specs.Calls.{read_item}
+use Rattle.pas_scopes.specs.ScopeViews.{scopes_view}
+use Rattle.pas_scopes.specs.inner.Listed.{items_behind, Gathered}
+use Rattle.pas_scopes.proofs.ExprCalls.{taken_split}
+use Rattle.pas_scopes.proofs.LabelSeen.{taken_more, taken_all}
 use Rattle.pas_types.proofs.GatherLemmas.{line_moved, more_fails, more_short, one_more}
 use Rattle.pas_types.proofs.GatherLemmas.{gathers_stop}
 use Rattle.pas_types.proofs.TransferItems.{read_many}

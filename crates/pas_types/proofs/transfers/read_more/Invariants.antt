@@ -6,10 +6,10 @@ use Rattle.pas_typed.specs.Typed.{Place}
 use Rattle.pas_typed.specs.TypeOf.{type_of_place}
 use Rattle.pas_typed.specs.TypeViews.{type_view}
 use Rattle.pas_typed.specs.TypedViews.{place_view}
-use Rattle.pas_types.specs.Calls.{read_item}
-use Rattle.pas_types.specs.ScopeViews.{scopes_view, IsClear}
-use Rattle.pas_types.specs.inner.Answers.{IsQuiet}
-use Rattle.pas_types.specs.inner.Listed.{Item, item_words, items_marks, items_behind, Gathered}
+use Rattle.pas_rules.specs.Calls.{read_item}
+use Rattle.pas_scopes.specs.ScopeViews.{scopes_view, IsClear}
+use Rattle.pas_scopes.specs.Answers.{IsQuiet}
+use Rattle.pas_scopes.specs.inner.Listed.{Item, item_words, items_marks, items_behind, Gathered}
 use Rattle.std.proofs.Common.{[], ◌∷◌, false}
 use Rattle.pas_types.proofs.transfers.read_more.Given as goal
 

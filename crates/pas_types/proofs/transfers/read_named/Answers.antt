@@ -6,15 +6,15 @@ use Rattle.pas_typed.specs.Types.{PasType, component_of}
 use Rattle.pas_typed.specs.Typed.{Value, Place, read}
 use Rattle.pas_typed.specs.TypeOf.{type_of_place}
 use Rattle.pas_typed.specs.TypedViews.{place_view, statement_view}
-use Rattle.pas_types.specs.Marks.{Judged}
-use Rattle.pas_types.specs.Calls.{demand_on_file, without_width, transfer_by, input, read_item, reads_by}
-use Rattle.pas_types.specs.ScopeViews.{scopes_view}
-use Rattle.pas_types.specs.inner.Answers.{Ending, end_in, Settles, IsQuiet}
-use Rattle.pas_types.specs.inner.Listed.{Gathered, items_behind}
+use Rattle.pas_rules.specs.Marks.{Judged}
+use Rattle.pas_rules.specs.Calls.{demand_on_file, without_width, transfer_by, input, read_item, reads_by}
+use Rattle.pas_scopes.specs.ScopeViews.{scopes_view}
+use Rattle.pas_scopes.specs.Answers.{Ending, end_in, Settles, IsQuiet}
+use Rattle.pas_scopes.specs.inner.Listed.{Gathered, items_behind}
 use Rattle.pas_types.specs.inner.Transfers.{extent_view}
-use Rattle.pas_types.proofs.SettleLemmas.{settles_stop}
-use Rattle.pas_types.proofs.ArgumentLemmas.{stands_quiet}
-use Rattle.pas_types.proofs.CallAnswers.{settled_is, unsettled_is}
+use Rattle.pas_scopes.proofs.SettleLemmas.{settles_stop}
+use Rattle.pas_scopes.proofs.ArgumentLemmas.{stands_quiet}
+use Rattle.pas_scopes.proofs.CallAnswers.{settled_is, unsettled_is}
 use Rattle.pas_types.proofs.FileLemmas.{file_component}
 use Rattle.pas_types.proofs.TransferItems.{read_many}
 use Rattle.pas_types.proofs.TransferParts.{call_words, first_actual, others, first_words, carried, named_part}

@@ -3,12 +3,12 @@ use Rattle.std.proofs.lemmas.Result.{err_from_is_err_and}
 use Rattle.pas_typed.specs.Types.{Table}
 use Rattle.pas_typed.specs.TypeViews.{table_view}
 use Rattle.pas_typed.specs.TypedViews.{value_view, place_view}
-use Rattle.pas_types.specs.declared.stop.Stop.{Stop}
-use Rattle.pas_types.specs.Calls.{read_demand}
-use Rattle.pas_types.specs.inner.Answers.{end_in, FailsBy}
-use Rattle.pas_types.specs.inner.Stopping.{wrong_in}
+use Rattle.pas_scopes.specs.declared.stop.Stop.{Stop}
+use Rattle.pas_rules.specs.Calls.{read_demand}
+use Rattle.pas_scopes.specs.Answers.{end_in, FailsBy}
+use Rattle.pas_scopes.specs.Stopping.{wrong_in}
 use Rattle.pas_types.specs.inner.Transfers.{place_by, wrongs_in}
-use Rattle.pas_types.proofs.AnswerLemmas.{stands_stop}
+use Rattle.pas_scopes.proofs.AnswerLemmas.{stands_stop}
 use Rattle.pas_types.proofs.TransferLemmas.{place_refused, place_fails}
 use Rattle.pas_types.proofs.transfers.read_only.Goals as goal
 

@@ -8,15 +8,15 @@ use Rattle.pas_typed.specs.Types.{text}
 use Rattle.pas_typed.specs.Typed.{Place, Slot, slot}
 use Rattle.pas_typed.specs.TypeOf.{type_of_place}
 use Rattle.pas_typed.specs.TypedViews.{place_view, statement_view}
-use Rattle.pas_types.specs.Marks.{Judged}
-use Rattle.pas_types.specs.Calls.{transfer_by, on_standard, input, read_item, reads_by}
-use Rattle.pas_types.specs.ScopeViews.{scopes_view}
-use Rattle.pas_types.specs.inner.Answers.{Ending, end_in, Settles, IsQuiet, ShowsBy}
-use Rattle.pas_types.specs.inner.Listed.{Gathered, items_behind}
+use Rattle.pas_rules.specs.Marks.{Judged}
+use Rattle.pas_rules.specs.Calls.{transfer_by, on_standard, input, read_item, reads_by}
+use Rattle.pas_scopes.specs.ScopeViews.{scopes_view}
+use Rattle.pas_scopes.specs.Answers.{Ending, end_in, Settles, IsQuiet, ShowsBy}
+use Rattle.pas_scopes.specs.inner.Listed.{Gathered, items_behind}
 use Rattle.pas_types.specs.inner.Transfers.{extent_view, Makes}
-use Rattle.pas_types.proofs.SettleLemmas.{settles_stop}
-use Rattle.pas_types.proofs.ArgumentLemmas.{stands_quiet}
-use Rattle.pas_types.proofs.CallAnswers.{settled_is, unsettled_is}
+use Rattle.pas_scopes.proofs.SettleLemmas.{settles_stop}
+use Rattle.pas_scopes.proofs.ArgumentLemmas.{stands_quiet}
+use Rattle.pas_scopes.proofs.CallAnswers.{settled_is, unsettled_is}
 use Rattle.pas_types.proofs.TransferItems.{read_many}
 use Rattle.pas_types.proofs.TransferParts.{call_words, first_actual, others, first_words, carried, standard_first}
 use Rattle.pas_types.proofs.TransferParts.{standard_fails, standard_short, standard_within, standard_means}

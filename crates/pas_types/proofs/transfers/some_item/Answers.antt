@@ -1,5 +1,5 @@
 use Rattle.std.proofs.Common.{rules, ◌≡◌, sym, ap, ◌∙◌, true, false, []}
-use Rattle.pas_types.specs.Calls.{missing_items}
+use Rattle.pas_rules.specs.Calls.{missing_items}
 use Rattle.pas_types.specs.inner.Transfers.{extent_view, refused_by, behind_actuals}
 use Rattle.pas_types.proofs.FileLemmas.{none_refused}
 use Rattle.pas_types.proofs.transfers.some_item.Goals as goal

@@ -8,9 +8,9 @@ use Rattle.pas_syntax.specs.Tree.{Behind, Expr}
 use Rattle.pas_typed.specs.Texts.{undoubled}
 use Rattle.pas_typed.specs.Typed.{Item, string_item}
 use Rattle.pas_typed.specs.TypedViews.{value_view, item_view}
-use Rattle.pas_types.specs.ScopeViews.{scopes_view}
-use Rattle.pas_types.specs.inner.Answers.{Ending, end_in, Stands, StandsAs}
-use Rattle.pas_types.proofs.AnswerLemmas.{stands_stop}
+use Rattle.pas_scopes.specs.ScopeViews.{scopes_view}
+use Rattle.pas_scopes.specs.Answers.{Ending, end_in, Stands, StandsAs}
+use Rattle.pas_scopes.proofs.AnswerLemmas.{stands_stop}
 use Rattle.pas_types.proofs.PrintLemmas.{string_words, string_part, string_fails, string_stands, string_alone}
 use Rattle.pas_types.proofs.transfers.string_item.Goals as goal
 

@@ -3,7 +3,7 @@ use Rattle.pas_syntax.specs.declared.tree.Quoted.{Quoted as CodeQuoted}
 use Rattle.pas_syntax.specs.ProgramViews.{argument_in}
 use Rattle.pas_syntax.specs.Views.{quoted_in}
 use Rattle.pas_typed.specs.TypedViews.{item_view}
-use Rattle.pas_types.specs.ScopeViews.{scopes_view}
+use Rattle.pas_scopes.specs.ScopeViews.{scopes_view}
 use Rattle.pas_types.specs.inner.Transfers.{IsLongText}
 use Rattle.pas_types.proofs.PrintLemmas.{string_argument, other_argument}
 use Rattle.pas_types.proofs.transfers.text_item.Goals as goal

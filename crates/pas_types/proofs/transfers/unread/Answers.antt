@@ -5,7 +5,7 @@ use Rattle.pas_tokens.specs.Cutting.{Wrong, wrong}
 use Rattle.pas_syntax.specs.Parse.{left_out}
 use Rattle.pas_typed.specs.TypeViews.{type_view, table_view}
 use Rattle.pas_typed.specs.TypedViews.{value_view}
-use Rattle.pas_types.specs.Marks.{unless}
+use Rattle.pas_rules.specs.Marks.{unless}
 use Rattle.pas_types.proofs.TransferLemmas.{read_is, demanded_is}
 use Rattle.pas_types.proofs.transfers.unread.Goals as goal
 

@@ -6,11 +6,11 @@ use Rattle.pas_typed.specs.Types.{integer, is_of}
 use Rattle.pas_typed.specs.Typed.{Value}
 use Rattle.pas_typed.specs.TypeOf.{type_of}
 use Rattle.pas_typed.specs.TypedViews.{value_view}
-use Rattle.pas_types.specs.Marks.{Judged, checked}
-use Rattle.pas_types.specs.Expressions.{value_of, only}
-use Rattle.pas_types.specs.ScopeViews.{scopes_view}
-use Rattle.pas_types.specs.inner.Answers.{end_in}
-use Rattle.pas_types.proofs.AnswerLemmas.{stands_stop, stops_fails, checked_stops_by}
+use Rattle.pas_rules.specs.Marks.{Judged, checked}
+use Rattle.pas_rules.specs.Expressions.{value_of, only}
+use Rattle.pas_scopes.specs.ScopeViews.{scopes_view}
+use Rattle.pas_scopes.specs.Answers.{end_in}
+use Rattle.pas_scopes.proofs.AnswerLemmas.{stands_stop, stops_fails, checked_stops_by}
 use Rattle.pas_types.proofs.TransferLemmas.{noted_fails, noted_stands}
 use Rattle.pas_types.proofs.transfers.width_of.Goals as goal
 

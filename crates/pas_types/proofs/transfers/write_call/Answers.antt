@@ -5,14 +5,14 @@ use Rattle.pas_syntax.specs.Words.{expr_words}
 use Rattle.pas_typed.specs.declared.typed.Place as code_place
 use Rattle.pas_typed.specs.Typed.{Statement}
 use Rattle.pas_typed.specs.TypedViews.{statement_view}
-use Rattle.pas_types.specs.declared.judged.Judged.{Judged as CodeJudged}
-use Rattle.pas_types.specs.Marks.{Judged}
-use Rattle.pas_types.specs.Calls.{procedure_of}
-use Rattle.pas_types.specs.Expressions.{value_of}
-use Rattle.pas_types.specs.ScopeViews.{scopes_view}
-use Rattle.pas_types.specs.inner.Answers.{Settles, ShowsBy}
+use Rattle.pas_scopes.specs.declared.judged.Judged.{Judged as CodeJudged}
+use Rattle.pas_rules.specs.Marks.{Judged}
+use Rattle.pas_rules.specs.Calls.{procedure_of}
+use Rattle.pas_rules.specs.Expressions.{value_of}
+use Rattle.pas_scopes.specs.ScopeViews.{scopes_view}
+use Rattle.pas_scopes.specs.Answers.{Settles, ShowsBy}
 use Rattle.pas_types.specs.inner.Transfers.{writing, IsFileAlone}
-use Rattle.pas_types.proofs.SettleLemmas.{settles_stop}
+use Rattle.pas_scopes.proofs.SettleLemmas.{settles_stop}
 use Rattle.pas_types.proofs.TransferParts.{call_words, first_actual, others}
 use Rattle.pas_types.proofs.WriteParts.{writing_seen}
 use Rattle.pas_types.proofs.transfers.write_call.Goals as goal

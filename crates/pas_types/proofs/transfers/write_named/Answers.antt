@@ -1,8 +1,8 @@
 use Rattle.std.proofs.Common.{sym, subst}
 use Rattle.pas_typed.specs.TypedViews.{place_view, statement_view}
 use Rattle.pas_types.specs.declared.transfers.Extent.{Extent as CodeExtent}
-use Rattle.pas_types.specs.ScopeViews.{scopes_view}
-use Rattle.pas_types.specs.inner.Answers.{Settles}
+use Rattle.pas_scopes.specs.ScopeViews.{scopes_view}
+use Rattle.pas_scopes.specs.Answers.{Settles}
 use Rattle.pas_types.specs.inner.Transfers.{extent_view, IsOnText}
 use Rattle.pas_types.proofs.TransferParts.{call_words}
 use Rattle.pas_types.proofs.WriteParts.{written}

@@ -4,15 +4,15 @@ use Rattle.pas_syntax.specs.Words.{Word}
 use Rattle.pas_typed.specs.declared.typed.Item.{Item as CodeItem}
 use Rattle.pas_typed.specs.Typed.{Slot, Place, Item as SpecItem, Statement, slot}
 use Rattle.pas_typed.specs.TypedViews.{item_view, statement_view}
-use Rattle.pas_types.specs.Marks.{Judged}
-use Rattle.pas_types.specs.Calls.{output}
-use Rattle.pas_types.specs.ScopeViews.{scopes_view}
-use Rattle.pas_types.specs.inner.Answers.{Ending, end_in, IsQuiet, ShowsBy}
-use Rattle.pas_types.specs.inner.Listed.{Gathered, items_behind}
+use Rattle.pas_rules.specs.Marks.{Judged}
+use Rattle.pas_rules.specs.Calls.{output}
+use Rattle.pas_scopes.specs.ScopeViews.{scopes_view}
+use Rattle.pas_scopes.specs.Answers.{Ending, end_in, IsQuiet, ShowsBy}
+use Rattle.pas_scopes.specs.inner.Listed.{Gathered, items_behind}
 use Rattle.pas_types.specs.inner.Transfers.{extent_view, item_written, writes_by, IsOnText, Makes}
-use Rattle.pas_types.proofs.SettleLemmas.{settles_stop}
-use Rattle.pas_types.proofs.ArgumentLemmas.{stands_quiet}
-use Rattle.pas_types.proofs.CallAnswers.{settled_is, unsettled_is}
+use Rattle.pas_scopes.proofs.SettleLemmas.{settles_stop}
+use Rattle.pas_scopes.proofs.ArgumentLemmas.{stands_quiet}
+use Rattle.pas_scopes.proofs.CallAnswers.{settled_is, unsettled_is}
 use Rattle.pas_types.proofs.TransferParts.{call_words, first_words, standard_start, made_settles, short_shows, no_file}
 use Rattle.pas_types.proofs.TransferParts.{some_file}
 use Rattle.pas_types.proofs.WriteParts.{written, text_item, texts_many, no_output, output_text, item_first}

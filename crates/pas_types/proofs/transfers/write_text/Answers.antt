@@ -3,15 +3,15 @@ use Rattle.std.proofs.lemmas.Result.{err_from_is_err_and}
 use Rattle.pas_syntax.specs.Words.{Word}
 use Rattle.pas_typed.specs.Typed.{Value, Place, Item as SpecItem, Statement, read}
 use Rattle.pas_typed.specs.TypedViews.{place_view, item_view, statement_view}
-use Rattle.pas_types.specs.Marks.{Judged}
-use Rattle.pas_types.specs.Calls.{demand_on_file, without_width}
-use Rattle.pas_types.specs.ScopeViews.{scopes_view}
-use Rattle.pas_types.specs.inner.Answers.{Ending, end_in, IsQuiet, Means}
-use Rattle.pas_types.specs.inner.Listed.{Gathered, items_behind}
+use Rattle.pas_rules.specs.Marks.{Judged}
+use Rattle.pas_rules.specs.Calls.{demand_on_file, without_width}
+use Rattle.pas_scopes.specs.ScopeViews.{scopes_view}
+use Rattle.pas_scopes.specs.Answers.{Ending, end_in, IsQuiet, Means}
+use Rattle.pas_scopes.specs.inner.Listed.{Gathered, items_behind}
 use Rattle.pas_types.specs.inner.Transfers.{extent_view, item_written, writes_by}
-use Rattle.pas_types.proofs.SettleLemmas.{settles_stop}
-use Rattle.pas_types.proofs.ArgumentLemmas.{stands_quiet}
-use Rattle.pas_types.proofs.CallAnswers.{settled_is, unsettled_is}
+use Rattle.pas_scopes.proofs.SettleLemmas.{settles_stop}
+use Rattle.pas_scopes.proofs.ArgumentLemmas.{stands_quiet}
+use Rattle.pas_scopes.proofs.CallAnswers.{settled_is, unsettled_is}
 use Rattle.pas_types.proofs.TransferParts.{call_words, first_actual, first_words, named_start, made_settles, met_known}
 use Rattle.pas_types.proofs.TransferParts.{same_place, short_shows}
 use Rattle.pas_types.proofs.WriteParts.{written, file_part, text_item, texts_many, text_fails, text_short, first_text}

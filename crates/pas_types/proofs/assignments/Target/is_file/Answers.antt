@@ -3,7 +3,7 @@ use Rattle.std.specs.Prelude.{is_some}
 use Rattle.pas_typed.specs.Types.{PasType, component_of}
 use Rattle.pas_typed.specs.TypeViews.{table_view}
 use Rattle.pas_types.specs.declared.assignments.Target.{Target as CodeTarget}
-use Rattle.pas_types.specs.Statements.{is_file_target}
+use Rattle.pas_rules.specs.Statements.{is_file_target}
 use Rattle.pas_types.specs.inner.TargetViews.{target_view}
 use Rattle.pas_types.proofs.assignments.Target.is_file.Goals as goal
 

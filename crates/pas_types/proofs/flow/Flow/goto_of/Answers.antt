@@ -2,10 +2,10 @@ use Rattle.std.proofs.Common.{sym, subst, [], ◌∷◌}
 use Rattle.pas_syntax.specs.Views.{numeral_in}
 use Rattle.pas_syntax.specs.Words.{Word, number_at}
 use Rattle.pas_typed.specs.Typed as typed
-use Rattle.pas_types.specs.Marks.{Judged}
-use Rattle.pas_types.specs.Labels as rule
-use Rattle.pas_types.specs.ScopeViews.{scopes_view}
-use Rattle.pas_types.specs.inner.Answers.{Means}
+use Rattle.pas_rules.specs.Marks.{Judged}
+use Rattle.pas_rules.specs.Labels as rule
+use Rattle.pas_scopes.specs.ScopeViews.{scopes_view}
+use Rattle.pas_scopes.specs.Answers.{Means}
 use Rattle.pas_types.specs.inner.LabelViews.{goto_in}
 use Rattle.pas_types.proofs.FlowLemmas.{means_at}
 use Rattle.pas_types.proofs.flow.Flow.goto_of.Goals as goal

@@ -3,9 +3,9 @@ use Rattle.std.specs.Option.{option_copied}
 use Rattle.pas_syntax.specs.Views.{numeral_in}
 use Rattle.pas_syntax.specs.Words.{number_at}
 use Rattle.pas_typed.specs.Typed as typed
-use Rattle.pas_types.specs.Marks.{Judged}
-use Rattle.pas_types.specs.ScopeViews.{scopes_view}
-use Rattle.pas_types.specs.inner.Answers.{Settles}
+use Rattle.pas_rules.specs.Marks.{Judged}
+use Rattle.pas_scopes.specs.ScopeViews.{scopes_view}
+use Rattle.pas_scopes.specs.Answers.{Settles}
 use Rattle.pas_types.specs.inner.LabelViews.{Known, goto_in}
 use Rattle.pas_types.proofs.FlowLemmas.{goto_beside, goto_here}
 use Rattle.pas_types.proofs.flow.Flow.target_of.Goals as goal

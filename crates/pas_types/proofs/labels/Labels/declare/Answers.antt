@@ -3,7 +3,7 @@ use Rattle.std.specs.Prelude.{nat_eq, not}
 use Rattle.std.specs.Map.{lookup}
 use Rattle.wb_base.specs.declared.faults.TheConstants.{DUPLICATE_NAME}
 use Rattle.indexmap.proofs.CallerLemmas.{insert_entry-new}
-use Rattle.pas_types.specs.Labels.{has_label}
+use Rattle.pas_rules.specs.Labels.{has_label}
 use Rattle.pas_types.specs.declared.labels.Label.{Label}
 use Rattle.pas_types.specs.inner.LabelViews.{Known, numbers_of}
 use Rattle.pas_types.specs.inner.LabelAnswers.{fresh_label}

@@ -4,11 +4,11 @@ use Rattle.pas_syntax.specs.declared.tree.Others.TheViews.{out-Statements, out-M
 use Rattle.pas_syntax.specs.declared.tree.MoreStatement.{MoreStatement}
 use Rattle.pas_syntax.specs.Tree.{Statement}
 use Rattle.pas_syntax.specs.ProgramViews.{statement_in}
-use Rattle.pas_types.specs.Labels.{labels_of_list}
-use Rattle.pas_types.specs.Statements.{label_of}
+use Rattle.pas_rules.specs.Labels.{labels_of_list}
+use Rattle.pas_rules.specs.Statements.{label_of}
 use Rattle.pas_types.specs.inner.LabelViews.{Known, entered}
 use Rattle.pas_types.proofs.LabelLemmas.{entered_both}
-use Rattle.pas_types.proofs.LabelSeen.{own_is, list_seen, labels_so_far, one_label_more, taken_more, taken_all}
+use Rattle.pas_scopes.proofs.LabelSeen.{own_is, list_seen, labels_so_far, one_label_more, taken_more, taken_all}
 use Rattle.pas_types.proofs.labels.Labels.enter.Goals as goal
 
 pub loop-more-init : goal.loop-more-init

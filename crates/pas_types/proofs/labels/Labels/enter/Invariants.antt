@@ -2,7 +2,7 @@ use Rattle.std.proofs.Common.{◌≡◌, ℕ, List, take}
 use Rattle.pas_syntax.specs.declared.tree.Others.TheViews.{out-Statements}
 use Rattle.pas_syntax.specs.ProgramViews.{statement_in}
 use Rattle.pas_types.specs.inner.LabelViews.{entered}
-use Rattle.pas_types.proofs.LabelSeen.{labels_so_far}
+use Rattle.pas_scopes.proofs.LabelSeen.{labels_so_far}
 use Rattle.pas_types.proofs.labels.Labels.enter.Given as goal
 
 abbrev pub invariant-loop-more : goal.invariant-loop-more

@@ -1,6 +1,6 @@
 use Rattle.std.proofs.Common.{◌∙◌, ap}
 use Rattle.pas_types.specs.inner.LabelViews.{Known}
-use Rattle.pas_types.specs.Labels.{has_label}
+use Rattle.pas_rules.specs.Labels.{has_label}
 use Rattle.pas_types.specs.inner.LabelViews.{numbers_of}
 use Rattle.pas_types.proofs.LabelLemmas.{found_has}
 use Rattle.pas_types.proofs.labels.Labels.has.Goals as goal

@@ -1,0 +1,14 @@
+pub mod Marks
+pub mod Scopes
+pub mod TypeForms
+pub mod Expressions
+pub mod Labels
+pub mod Calls
+pub mod Statements
+pub mod Declarations
+pub mod Routines
+pub mod HeadingWords
+pub mod Check
+pub mod Checked
+pub mod FileNames
+pub mod CheckRows

@@ -1,0 +1,16 @@
+pub mod NameViews
+pub mod OutsideViews
+pub mod ScopeViews
+pub mod NamesInside
+pub mod NameSetInside
+pub mod Ends
+pub mod Stopping
+pub mod Answers
+pub mod Constants
+pub mod TypeAnswers
+pub mod Arguments
+pub mod NameAnswers
+pub mod FormAnswers
+pub mod DeclaredSoFar
+pub mod Locals
+pub mod inner

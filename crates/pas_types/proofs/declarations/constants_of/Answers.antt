@@ -1,4 +1,0 @@
-use Rattle.pas_types.proofs.declarations.constants_of.Goals as goal
-
-pub returns-in-Some-clause-declares : goal.returns-in-Some-clause-declares
-returns-in-Some-clause-declares c = rw c.in-Some.is c.constant_rows.ensures.declares

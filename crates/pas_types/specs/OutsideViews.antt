@@ -1,7 +1,0 @@
--- A name that lies outside as the definition has it.
-use Rattle.pas_types.specs.declared.names.Outside.{Outside}
-use Rattle.pas_types.specs.Scopes.{Named, names}
-use Rattle.pas_types.specs.NameViews.{entity_view}
-
-abbrev pub outside_view : Outside → Named
-outside_view found = names found.name.now (entity_view found.entity)
