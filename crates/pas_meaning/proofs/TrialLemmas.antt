@@ -18,7 +18,7 @@ use Rattle.pas_meaning.proofs.GoesLemmas.{goes_within}
 use Rattle.pas_meaning.proofs.DepthLemmas.{as_self, as_bind, as_then, as_within}
 
 -- the files at the start
-bytes_given : (parameters : List Variable) (given : List (List ℕ)) → length given ≡ length parameters
+pub bytes_given : (parameters : List Variable) (given : List (List ℕ)) → length given ≡ length parameters
     → map (λ file. file.bytes) (map trial.file_given (zip parameters given)) ≡ given
 bytes_given [] [] as_many = refl
 bytes_given [] (bytes ∷ given) as_many = absurd (omega (arith, as_many))

@@ -1,23 +1,27 @@
 -- Ports that are bound, the files over them at the start of a run, and the ports behind it.
 use Rattle.std.proofs.Common.{◌≡◌, ℕ, zero, suc, ◌+◌, ◌<◌, ◌≤◌, List, [], ◌∷◌, length, map, Option, Some, None, arith}
 use Rattle.std.proofs.Common.{refl, sym, ap, ◌∙◌, subst, subst₂, slice_index_or, slice_set, slice_get, drop, Bool, true}
-use Rattle.std.proofs.Common.{false}
-use Rattle.std.proofs.lemmas.List.{length-map, map-set, get_or-set_same, set-get_or, get_or-map}
-use Rattle.std.proofs.lemmas.Option.{same_Some}
+use Rattle.std.proofs.Common.{false, take, ◌++◌}
+use Rattle.std.proofs.lemmas.List.{length-map, map-set, get_or-set_same, set-get_or, get_or-map, length-append}
+use Rattle.std.proofs.lemmas.List.{map-append, take_more}
+use Rattle.std.proofs.lemmas.Option.{same_Some, slice_get_within, get_or_from_slice_get}
 use Rattle.std.specs.Prelude.{⊤, zip}
 use Rattle.wb_ports.specs.Counts.{Rose, CountsFailure}
 use Rattle.wb_ports.specs.Held.{WhereTold, Becomes, Stays}
 use Rattle.wb_ports.specs.PortState.{PortState, named_port}
+use Rattle.pas_typed.specs.Types.{text, same_type}
 use Rattle.pas_typed.specs.Typed.{Variable}
 use Rattle.pas_meaning.specs.Files.{File}
 use Rattle.pas_meaning.specs.Trial.{file_given, Told}
 use Rattle.pas_run.specs.declared.files.FileState.{FileState}
+use Rattle.pas_run.specs.declared.files.Ahead.TheVariants.{Unknown}
+use Rattle.pas_run.specs.declared.files.Usage.TheVariants.{Unused}
 use Rattle.pas_run.specs.RunFiles.{IsFile, Shows}
 use Rattle.pas_run.specs.WholeRuns.{IsBehind, AreBehind, Hold, CountsFailures}
-use Rattle.pas_run.specs.inner.MachineState.{KeptFile, AreFiles, AreShown}
+use Rattle.pas_run.specs.inner.MachineState.{KeptFile, AreFiles, AreShown, failures_of, CountFailures}
 use Rattle.pas_run.specs.inner.Starting.{IsFinishedFile, AreFinishedFiles}
 use Rattle.pas_run.specs.inner.Binding.{AreBound, state_at_start}
-use Rattle.pas_run.proofs.RunLemmas.{file_at_start}
+use Rattle.pas_run.proofs.RunLemmas.{file_at_start, as_many_files}
 
 -- the ports with the names of their files
 abbrev pub bound_ports : List Variable → List PortState → List PortState
@@ -54,13 +58,16 @@ files_at_start (found ∷ parameters) (port ∷ given) (own ∷ kept) bound stat
 )
 
 -- behind the run
+abbrev told_file : File → Told
+told_file file = record { bytes = file.bytes; starts = file.starts }
+
 port_behind : (found : Variable) (before : PortState) (tells : Option PortState) (file : File)
     → IsFinishedFile (named_port found.name before) tells file → (now : PortState) → tells ≡ Some now
-    → IsBehind found before (record { bytes = file.bytes; starts = file.starts }) now
+    → IsBehind found before (told_file file) now
 port_behind found before None file is now same = absurd is
 port_behind found before (Some port) file is now same =
-    subst (λ (now : PortState). IsBehind found before (record { bytes = file.bytes; starts = file.starts }) now)
-    (same_port same) (record { name = is.0; bytes = is.1.0; finishes = is.1.1.0; starts = is.1.1.1 })
+    subst (λ (now : PortState). IsBehind found before (told_file file) now)
+    (same_port same) (record { name = is.0; bytes = is.1; finishes = is.2; starts = is.3 })
   where
     same_port : Some port ≡ Some now → port ≡ now
     same_port same = cc
@@ -68,7 +75,7 @@ port_behind found before (Some port) file is now same =
 pub ports_behind : (parameters : List Variable) (given : List PortState) (kept : List KeptFile) (files : List File)
     → length given ≡ length parameters → AreFinishedFiles (bound_ports parameters given) kept files
     → AreBehind parameters given
-    (map (λ (file : File). record { bytes = file.bytes; starts = file.starts } : Told) files)
+    (map told_file files)
     (map (λ (file : KeptFile). file.told) kept)
 ports_behind [] [] [] [] many are = tt
 ports_behind [] [] [] (file ∷ files) many are = absurd are
@@ -78,20 +85,14 @@ ports_behind (found ∷ parameters) [] kept files many are = absurd (omega (arit
 ports_behind (found ∷ parameters) (port ∷ given) [] files many are = absurd are
 ports_behind (found ∷ parameters) (port ∷ given) (own ∷ kept) [] many are = absurd are
 ports_behind (found ∷ parameters) (port ∷ given) (own ∷ kept) (file ∷ files) many are =
-    told own.told are.0
+    told own.told are.0 (ports_behind parameters given kept files (omega (arith, many)) are.1)
   where
-    rest : AreBehind parameters given
-        (map (λ (file : File). record { bytes = file.bytes; starts = file.starts } : Told) files)
-        (map (λ (file : KeptFile). file.told) kept)
-    rest = ports_behind parameters given kept files (omega (arith, many)) are.1
-
     told : (tells : Option PortState) → IsFinishedFile (named_port found.name port) tells file
-        → AreBehind (found ∷ parameters) (port ∷ given)
-        (record { bytes = file.bytes; starts = file.starts }
-        ∷ map (λ (file : File). record { bytes = file.bytes; starts = file.starts } : Told) files)
+        → AreBehind parameters given (map told_file files) (map (λ (file : KeptFile). file.told) kept)
+        → AreBehind (found ∷ parameters) (port ∷ given) (told_file file ∷ map told_file files)
         (tells ∷ map (λ (file : KeptFile). file.told) kept)
-    told None is = absurd is
-    told (Some now) is = (port_behind found port (Some now) file is now refl, rest)
+    told None is rest = absurd is
+    told (Some now) is rest = (port_behind found port (Some now) file is now refl, rest)
 
 -- ports that show bytes hold them
 pub hold_shown : (kept : List KeptFile) (bytes : List (List ℕ)) → AreShown kept bytes
@@ -99,12 +100,12 @@ pub hold_shown : (kept : List KeptFile) (bytes : List (List ℕ)) → AreShown k
 hold_shown [] [] shown = tt
 hold_shown [] (first ∷ bytes) shown = absurd shown
 hold_shown (own ∷ kept) [] shown = absurd shown
-hold_shown (own ∷ kept) (first ∷ bytes) shown = told own.told shown.0
+hold_shown (own ∷ kept) (first ∷ bytes) shown = told own.told shown.0 (hold_shown kept bytes shown.1)
   where
-    told : (tells : Option PortState) → Shows first tells
+    told : (tells : Option PortState) → Shows first tells → Hold bytes (map (λ (file : KeptFile). file.told) kept)
         → Hold (first ∷ bytes) (tells ∷ map (λ (file : KeptFile). file.told) kept)
-    told None shows = absurd shows
-    told (Some port) shows = (shows, hold_shown kept bytes shown.1)
+    told None shows rest = absurd shows
+    told (Some port) shows rest = (shows, rest)
 
 -- the first ports are bound
 abbrev pub BoundTo : ℕ → List Variable → List (Option PortState) → List (Option PortState) → Type 0
@@ -193,45 +194,47 @@ counts_of_one before now i count false less is same =
 
 -- the same of ports that tell and count so
 module _ {P : Type 0} (told : P → Option PortState) (failures : P → ℕ) (parameters : List Variable)
-    (initial : List P) (i : ℕ) (ports : List P) (new : P) (less : i < length ports) where
-  told_at : (tells : Option PortState) → slice_index_or (map told ports) i tells ≡ told (slice_index_or ports i new)
-  told_at tells = get_or-map told ports i new tells less
+    (initial : List P) (i : ℕ) (ports : List P) (old new : P) (less : i < length ports)
+    (own : old ≡ slice_index_or ports i old) where
+  told_at : slice_index_or (map told ports) i (told new) ≡ told old
+  told_at = get_or-map told ports i old (told new) less ∙ ap told (sym own)
 
-  failures_at : slice_index_or (map failures ports) i 0 ≡ failures (slice_index_or ports i new)
-  failures_at = get_or-map failures ports i new 0 less
-
-  many_counts : i < length (map failures ports)
-  many_counts = omega (arith, less, length-map ports failures)
+  failures_at : slice_index_or (map failures ports) i 0 ≡ failures old
+  failures_at = get_or-map failures ports i old 0 less ∙ ap failures (sym own)
 
   pub bound_one : (found : Variable) (name : List ℕ) → slice_get parameters i ≡ Some found → name ≡ found.name
       → BoundTo i parameters (map told initial) (map told ports) → length ports ≡ length initial
-      → WhereTold (Becomes (named_port name)) (told (slice_index_or ports i new)) (told new)
+      → WhereTold (Becomes (named_port name)) (told old) (told new)
       → BoundTo (i + 1) parameters (map told initial) (map told (slice_set ports i new))
-  bound_one found name is named are many own =
+  bound_one found name is named are many bound =
       let next : suc i ≡ i + 1 = omega arith in
       subst (λ (k : ℕ). BoundTo k parameters (map told initial) (map told (slice_set ports i new))) next
       (subst (BoundTo (suc i) parameters (map told initial)) (sym (map-set told ports i new))
       (bound_next i parameters (map told initial) (map told ports) found (told new) are is
       (omega (arith, less, many, length-map initial told))
       (subst₂ (λ (name : List ℕ) (before : Option PortState). WhereTold (Becomes (named_port name)) before (told new))
-      named (sym (told_at (told new))) own)))
+      named (sym told_at) bound)))
 
   pub hold_not_bound : (bytes : List (List ℕ)) → BoundTo i parameters (map told initial) (map told ports)
-      → WhereTold Stays (told (slice_index_or ports i new)) (told new) → Hold bytes (map told initial)
+      → WhereTold Stays (told old) (told new) → Hold bytes (map told initial)
       → Hold bytes (map told (slice_set ports i new))
-  hold_not_bound bytes are own hold =
+  hold_not_bound bytes are stays hold =
       subst (Hold bytes) (sym (map-set told ports i new))
       (hold_stays i (map told ports) (told new) bytes (omega (arith, less, length-map ports told))
-      (subst (λ (before : Option PortState). WhereTold Stays before (told new)) (sym (told_at (told new))) own)
+      (subst (λ (before : Option PortState). WhereTold Stays before (told new)) (sym told_at) stays)
       (hold_bound i parameters (map told initial) (map told ports) bytes are hold))
 
-  pub counts_at : (failed : Bool)
-      → CountsFailure failed (failures (slice_index_or ports i new)) (failures new)
+  pub counts_at : (failed : Bool) → CountsFailure failed (failures old) (failures new)
       → CountsFailures failed (map failures ports) (map failures (slice_set ports i new))
-  counts_at failed own =
-      counts_of_one (map failures ports) (map failures (slice_set ports i new)) i (failures new) failed many_counts
-      (map-set failures ports i new)
-      (subst (λ count. CountsFailure failed count (failures new)) (sym failures_at) own)
+  counts_at failed counts =
+      counts_of_one (map failures ports) (map failures (slice_set ports i new)) i (failures new) failed
+      (omega (arith, less, length-map ports failures)) (map-set failures ports i new)
+      (subst (λ count. CountsFailure failed count (failures new)) (sym failures_at) counts)
+
+pub as_many_ports : {P : Type 0} (failures : P → ℕ) (ports others : List P)
+    → map failures ports ≡ map failures others → length ports ≡ length others
+as_many_ports failures ports others same =
+    omega (arith, ap length same, length-map ports failures, length-map others failures)
 
 pub ports_bound : {P : Type 0} (told : P → Option PortState) (parameters : List Variable) (initial ports : List P)
     (i : ℕ) → BoundTo i parameters (map told initial) (map told ports) → length initial ≤ i
@@ -245,3 +248,81 @@ pub ports_hold : {P : Type 0} (told : P → Option PortState) (parameters : List
     → Hold bytes (map told initial) → Hold bytes (map told ports)
 ports_hold told parameters initial ports i bytes =
     hold_bound i parameters (map told initial) (map told ports) bytes
+
+-- while items are moved into a list, the next one is one of all
+pub next_of_all : {X Y : Type 0} (move : X → Y) (done rest all : List X) (next : X) (moved : List Y)
+    → done ++ next ∷ rest ≡ all → moved ≡ map move done → length moved < length all
+next_of_all move done rest all next moved same is =
+    omega (arith, ap length same, length-append done (next ∷ rest), ap length is, length-map done move)
+
+-- what is kept of a file at the start
+abbrev state_by : Bool → FileState
+state_by is_text = record { is_text = is_text; usage = Unused; ahead = Unknown; last = None; buffer = None }
+
+pub started_as : (found : Variable) (is_text : Bool) (state : FileState) → state ≡ state_by is_text
+    → is_text ≡ same_type found.type text → state ≡ state_at_start found
+started_as found is_text state is same = is ∙ ap state_by same
+
+-- and of one file more
+pub states_grow : {R : Type 0} (state_of : R → FileState) (parameters : List Variable) (before now : List R) (new : R)
+    (i : ℕ) (found : Variable) → now ≡ before ++ new ∷ [] → i ≡ length before → slice_get parameters i ≡ Some found
+    → state_of new ≡ state_at_start found
+    → map state_of before ≡ map state_at_start (take (length before) parameters)
+    → map state_of now ≡ map state_at_start (take (length now) parameters)
+states_grow state_of parameters before now new i found is same there started are =
+    let long : length now ≡ i + 1 = omega (arith, ap length is, length-append before (new ∷ []), same) in
+    let more : take (i + 1) parameters ≡ take i parameters ++ found ∷ [] =
+    take_more parameters i found (slice_get_within parameters i found there)
+    ∙ ap (λ (last : Variable). take i parameters ++ last ∷ []) (get_or_from_slice_get parameters i found found there) in
+    ap (map state_of) is
+    ∙ (map-append state_of before (new ∷ [])
+    ∙ (ap (λ (states : List FileState). states ++ state_of new ∷ [])
+    (are ∙ ap (λ (k : ℕ). map state_at_start (take k parameters)) (sym same))
+    ∙ (ap (λ (last : FileState). map state_at_start (take i parameters) ++ last ∷ []) started
+    ∙ (sym (map-append state_at_start (take i parameters) (found ∷ []))
+    ∙ (ap (map state_at_start) (sym more)
+    ∙ ap (λ (k : ℕ). map state_at_start (take k parameters)) (sym long))))))
+
+-- what is kept of files that are over these ports
+module _ {R P : Type 0} (kept_of : R → KeptFile) (port_of : R → P) (told : P → Option PortState) (failures : P → ℕ)
+    (state_of : R → FileState) (tells : (file : R) → (kept_of file).told ≡ told (port_of file))
+    (counts : (file : R) → (kept_of file).failures ≡ failures (port_of file))
+    (stands : (file : R) → (kept_of file).state ≡ state_of file) where
+  pub kept_told : (files : List R)
+      → map (λ (kept : KeptFile). kept.told) (map kept_of files) ≡ map told (map port_of files)
+  kept_told [] = refl
+  kept_told (file ∷ files) =
+      ap (λ (first : Option PortState). first ∷ map (λ (kept : KeptFile). kept.told) (map kept_of files)) (tells file)
+      ∙ ap (λ more. told (port_of file) ∷ more) (kept_told files)
+
+  pub kept_failures : (files : List R) → failures_of (map kept_of files) ≡ map failures (map port_of files)
+  kept_failures [] = refl
+  kept_failures (file ∷ files) =
+      ap (λ (first : ℕ). first ∷ failures_of (map kept_of files)) (counts file)
+      ∙ ap (λ more. failures (port_of file) ∷ more) (kept_failures files)
+
+  pub kept_states : (files : List R)
+      → map (λ (kept : KeptFile). kept.state) (map kept_of files) ≡ map state_of files
+  kept_states [] = refl
+  kept_states (file ∷ files) =
+      ap (λ (first : FileState). first ∷ map (λ (kept : KeptFile). kept.state) (map kept_of files)) (stands file)
+      ∙ ap (λ more. state_of file ∷ more) (kept_states files)
+
+-- the failed calls of files are those of their ports; and there are as many of these
+pub counts_as : (failed : Bool) (before now : List KeptFile) → CountFailures failed before now
+    → CountsFailures failed (failures_of before) (failures_of now)
+counts_as true before now counts = record {
+  number = counts.number;
+  there = omega (arith, counts.there, length-map before (λ (kept : KeptFile). kept.failures));
+  rose = counts.rose;
+}
+counts_as false before now same = same
+
+pub many_as : (failed : Bool) (before now : List KeptFile) → CountFailures failed before now
+    → length now ≡ length before
+many_as true before now counts = counts.many
+many_as false before now same = as_many_files now before same
+
+pub nothing_left : {X : Type 0} (items : List X) → length items ≡ 0 → items ≡ []
+nothing_left [] none = refl
+nothing_left (item ∷ items) none = absurd (omega (arith, none))

@@ -160,20 +160,26 @@ does_behind_step most kinds later Is next before between now result fewer step t
 }
 
 -- where no call of a port failed in a first part
+as_many : (first between : List KeptFile) → CountFailures false first between → length between ≡ length first
+as_many first between same =
+    omega (
+      arith,
+      ap length same,
+      length-map first (λ (kept : KeptFile). kept.failures),
+      length-map between (λ (kept : KeptFile). kept.failures),
+    )
+
 pub counts_on : (failed : Bool) (first between now : List KeptFile) → CountFailures false first between
     → CountFailures failed between now → CountFailures failed first now
-counts_on true first between now same counts = record {
-  number = counts.number;
-  there = omega (
-    arith,
-    counts.there,
-    ap length same,
-    length-map first (λ (kept : KeptFile). kept.failures),
-    length-map between (λ (kept : KeptFile). kept.failures),
-  );
-  rose = subst (λ failures. Rose (slice_index_or failures counts.number 0)
-      (slice_index_or (failures_of now) counts.number 0)) same counts.rose;
-}
+counts_on true first between now same counts =
+    let many = as_many first between same in
+    record {
+      many = counts.many ∙ many;
+      number = counts.number;
+      there = omega (arith, counts.there, many);
+      rose = subst (λ failures. Rose (slice_index_or failures counts.number 0)
+          (slice_index_or (failures_of now) counts.number 0)) same counts.rose;
+    }
 counts_on false first between now same counts = counts ∙ same
 
 -- a question to the variables and the world, which leaves the machine

@@ -1,6 +1,7 @@
 -- The end of a run: each port is finished, or a failed call cut the run off at a moment.
-use Rattle.std.proofs.Common.{◌≡◌, ℕ, zero, suc, ◌+◌, ◌<◌, ◌≤◌, List, [], ◌∷◌, length, Option, Some, None, arith, refl}
-use Rattle.std.proofs.Common.{sym, ap, ◌∙◌, subst, slice_index_or, slice_set}
+use Rattle.std.proofs.Common.{◌≡◌, ℕ, zero, suc, ◌+◌, ◌<◌, ◌≤◌, List, [], ◌∷◌, length, map, Option, Some, None, arith, refl}
+use Rattle.std.proofs.Common.{sym, ap, ◌∙◌, subst, slice_index_or, slice_set, Bool, true, false}
+use Rattle.std.proofs.lemmas.List.{length-map, get_or_default}
 use Rattle.std.specs.Prelude.{Contains, ⊤}
 use Rattle.wb_ports.specs.Counts.{next_count, grown}
 use Rattle.wb_ports.specs.Held.{WhereTold, Becomes}
@@ -10,13 +11,14 @@ use Rattle.pas_meaning.specs.Outcome.{Output, World, moments, replay}
 use Rattle.pas_meaning.specs.Laws.{Extends, as_it_was, and_one, bytes_in}
 use Rattle.pas_meaning.specs.Trial as trial
 use Rattle.pas_run.specs.RunFiles.{IsFile, Shows, Stands}
-use Rattle.pas_run.specs.inner.MachineState.{KeptFile, MachineState, AreFiles, AreShown, IsWorld}
-use Rattle.pas_run.specs.inner.Doings.{IsMoment}
+use Rattle.pas_run.specs.inner.MachineState.{KeptFile, MachineState, AreFiles, AreShown, IsWorld, CountFailures}
+use Rattle.pas_run.specs.inner.Doings.{IsMoment, is_failure, is_end}
 use Rattle.pas_run.specs.inner.Starting.{IsFinished, AreFinished, IsFinishedFile, AreFinishedFiles}
 use Rattle.pas_run.specs.inner.Starting.{IsFinishedAt, IsCutOff, EndsAs, EndsFinished}
 use Rattle.pas_run.specs.declared.ends.Stop.{Stop}
 use Rattle.pas_run.specs.declared.ends.Stop.TheVariants as stop
-use Rattle.pas_run.proofs.FileLemmas.{all_shown}
+use Rattle.pas_run.proofs.DoesLemmas.{counts_on}
+use Rattle.pas_run.proofs.FileLemmas.{all_shown, ChangesFile}
 
 -- a port finished once more
 file_finished : (bound : PortState) (kept now : KeptFile) (file : File) → IsFile bound kept.state kept.told file
@@ -104,15 +106,15 @@ finished_shown (suc i) (kept ∷ before) (own ∷ now) (first ∷ bytes) are sho
 
 -- the moments of a trail are those of what was put out earlier, and more
 first_moment : (given : List (List ℕ)) (trail : List Output) → Contains (moments given trail) (replay given trail)
-first_moment given [] = (zero, (omega arith, refl))
-first_moment given (output ∷ earlier) = (zero, (omega arith, refl))
+first_moment given [] = (zero, omega arith, refl)
+first_moment given (output ∷ earlier) = (zero, omega arith, refl)
 
 pub earlier_moment : (given : List (List ℕ)) (earlier later : List Output) → Extends earlier later
     → Contains (moments given later) (replay given earlier)
 earlier_moment given earlier later as_it_was = first_moment given later
 earlier_moment given earlier later (and_one output trail extends) =
     let found = earlier_moment given earlier trail extends in
-    (suc found.0, (omega (arith, found.1.0), found.1.1))
+    (suc found.0, omega (arith, found.1), found.2)
 
 -- a run that a failed call of a port stopped, and one whose ports could not all be finished
 module _ (given : List (List ℕ)) (first : World) (result : trial.Result) (files : List KeptFile)
@@ -133,14 +135,9 @@ module _ (given : List (List ℕ)) (first : World) (result : trial.Result) (file
   }
 
 -- a run that came to an end: its ports are finished, or one could not be
-abbrev pub IsEnd : Stop → Type 0
-IsEnd stop.PortFailed = ⊥
-IsEnd stop.OutOfMemory = ⊥
-IsEnd why = ⊤
-
 module _ (ports : List PortState) (given : List (List ℕ)) (first : World) (result : trial.Result)
     (before now : MachineState) where
-  pub ends_finished : (why : Stop) → IsEnd why → EndsAs ports first result before why
+  pub ends_finished : (why : Stop) → is_end why ≡ true → EndsAs ports first result before why
       → AreFinished before.files now.files → EndsFinished ports given result now why
   ends_finished (stop.Halted status) end h finished =
       (h.0, files_finished ports before.files now.files result.world.files h.1.files finished)
@@ -150,18 +147,19 @@ module _ (ports : List PortState) (given : List (List ℕ)) (first : World) (res
       (h.0, files_finished ports before.files now.files result.world.files h.1.files finished)
   ends_finished stop.TooDeep end h finished =
       (h.0, files_finished ports before.files now.files result.world.files h.1.files finished)
-  ends_finished stop.PortFailed end h finished = absurd end
-  ends_finished stop.OutOfMemory end h finished = absurd end
+  ends_finished stop.PortFailed end h finished = absurd cc
+  ends_finished stop.OutOfMemory end h finished = absurd cc
 
-  world_at_end : (why : Stop) → IsEnd why → EndsAs ports first result before why → IsWorld ports before result.world
+  world_at_end : (why : Stop) → is_end why ≡ true → EndsAs ports first result before why
+      → IsWorld ports before result.world
   world_at_end (stop.Halted status) end h = h.1
   world_at_end stop.Going end h = h.1
   world_at_end (stop.Wrong kind) end h = h.1
   world_at_end stop.TooDeep end h = h.1
-  world_at_end stop.PortFailed end h = absurd end
-  world_at_end stop.OutOfMemory end h = absurd end
+  world_at_end stop.PortFailed end h = absurd cc
+  world_at_end stop.OutOfMemory end h = absurd cc
 
-  pub ends_unfinished : (why : Stop) → IsEnd why → EndsAs ports first result before why → first.trail ≡ []
+  pub ends_unfinished : (why : Stop) → is_end why ≡ true → EndsAs ports first result before why → first.trail ≡ []
       → given ≡ bytes_in first → replay given result.world.trail ≡ bytes_in result.world
       → ((bytes : List (List ℕ)) → AreShown before.files bytes → AreShown now.files bytes)
       → EndsFinished ports given result now stop.PortFailed
@@ -169,3 +167,51 @@ module _ (ports : List PortState) (given : List (List ℕ)) (first : World) (res
       cut_off_at_end given first result now.files none bytes told
       (shown (bytes_in result.world)
       (all_shown ports before.files result.world.files (world_at_end why end h).files))
+
+  -- a run that was cut off
+  pub ends_cut_off : (why : Stop) → is_end why ≡ false → EndsAs ports first result before why → first.trail ≡ []
+      → given ≡ bytes_in first → EndsFinished ports given result before why
+  ends_cut_off (stop.Halted status) end h none bytes = absurd cc
+  ends_cut_off stop.Going end h none bytes = absurd cc
+  ends_cut_off (stop.Wrong kind) end h none bytes = absurd cc
+  ends_cut_off stop.TooDeep end h none bytes = absurd cc
+  ends_cut_off stop.PortFailed end h none bytes = cut_off given first result before.files none bytes h
+  ends_cut_off stop.OutOfMemory end h none bytes = tt
+
+-- no call of a port failed in a run that came to an end
+end_is_none : (why : Stop) → is_end why ≡ true → is_failure why ≡ false
+end_is_none (stop.Halted status) end = refl
+end_is_none stop.Going end = refl
+end_is_none (stop.Wrong kind) end = refl
+end_is_none stop.TooDeep end = refl
+end_is_none stop.PortFailed end = absurd cc
+end_is_none stop.OutOfMemory end = refl
+
+module _ (before between now : List KeptFile) (why : Stop) (end : is_end why ≡ true)
+    (counts : CountFailures (is_failure why) before between) where
+  none_so_far : CountFailures false before between
+  none_so_far = subst (λ failed. CountFailures failed before between) (end_is_none why end) counts
+
+  pub counts_finished : CountFailures false between now → CountFailures (is_failure why) before now
+  counts_finished more =
+      subst (λ failed. CountFailures failed before now) (sym (end_is_none why end))
+      (counts_on false before between now none_so_far more)
+
+  pub counts_unfinished : CountFailures true between now → CountFailures true before now
+  counts_unfinished more = counts_on true before between now none_so_far more
+
+-- the one file is finished whose port is
+pub finished_file : (number : ℕ) (before now : MachineState) (file new : KeptFile)
+    → ChangesFile number before now file new → new.state ≡ file.state
+    → WhereTold (Becomes finished_port) file.told new.told → IsFinishedAt number before.files now.files
+finished_file number before now file new changes state told = record {
+  new = new;
+  finished = subst (λ (kept : KeptFile). IsFinished kept new)
+      (changes.is ∙ get_or_default before.files number file new changes.there) (state, told);
+  same = ap (λ (machine : MachineState). machine.files) changes.same;
+}
+
+-- as many files are kept of a machine as it has
+pub as_many_inside : {R : Type 0} (files : List R) (kept_of : R → KeptFile) (kept : List KeptFile)
+    → map kept_of files ≡ kept → length files ≡ length kept
+as_many_inside files kept_of kept is = sym (length-map files kept_of) ∙ ap length is

@@ -550,6 +550,8 @@ module _ (number : ℕ) (before now : MachineState) (file new : KeptFile)
   pub counts_by : (failed : Bool) → CountsFailure failed file.failures new.failures
       → CountFailures failed before.files now.files
   counts_by true rose = record {
+    many = ap (λ (machine : MachineState). length machine.files) changes.same
+        ∙ length-set before.files number new;
     number = number;
     there = changes.there;
     rose = subst₂ Rose (sym own_count)

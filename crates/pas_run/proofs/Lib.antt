@@ -31,3 +31,4 @@ pub mod RunLemmas
 pub mod EndingLemmas
 pub mod BindingLemmas
 pub mod ReportLemmas
+pub mod PortRunLemmas

@@ -23,8 +23,7 @@ contains_reversed : {X : Type 0} (xs : List X) (x : X) → Contains xs x → Con
 contains_reversed xs x among =
     let long = length-reverse xs in
     let less = among.1 in
-    let back : length xs - 1 - (length xs - 1 - among.0) ≡ among.0 = omega arith in
-    (
+    let back : length xs - 1 - (length xs - 1 - among.0) ≡ among.0 = omega arith in (
       length xs - 1 - among.0,
       omega arith,
       get_or-reverse xs (length xs - 1 - among.0) x (omega arith) ∙ ap (λ (k : ℕ). get_or xs k x) back ∙ among.2,

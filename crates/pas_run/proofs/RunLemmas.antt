@@ -283,3 +283,15 @@ trial_ends program given steps kinds ports before now why stands does =
     stops_as kinds ports (run_at_start program given steps).world
     (whole_run (Some CALL_LIMIT) program steps (run_at_start program given steps)) now why
     (does.each ports (run_at_start program given steps) stands (omega arith))
+
+pub trial_gives : (program : TypedProgram) (given : List (List ℕ)) (steps : ℕ) (kinds : Kinds)
+    (ports : List PortState) (before now : MachineState) → IsRun kinds ports before (run_at_start program given steps)
+    → Does {T = Unit {0}} steps kinds kinds Any (whole_run (Some CALL_LIMIT) program steps) before now (Ok (tt {0}))
+    → EndsAs ports (run_at_start program given steps).world (pascal_trial program given steps) now (why_stop.Halted 0)
+unfolding pascal_trial
+trial_gives program given steps kinds ports before now stands does =
+    let found = does.each ports (run_at_start program given steps) stands (omega arith) in (
+      ap (λ (outcome : Outcome Store (Unit {0})). (result_of outcome).ending) found.same,
+      subst (λ (outcome : Outcome Store (Unit {0})). IsWorld ports now (result_of outcome).world) (sym found.same)
+          found.stands.world,
+    )

@@ -22,6 +22,7 @@ use crate::ends::Stop;
 use crate::layouts::Scene;
 use crate::machine::Machine;
 use crate::selectors::behind_cells;
+use crate::stack::COPY;
 use pas_typed::typed::{Place, Slot, Value};
 use pas_typed::types::PasType;
 use sqlite_items::Items;
@@ -58,10 +59,11 @@ impl<P: Port> Machine<P> {
         ensures does { Copies scene.entry (value_view value.now) self.old self.new result }
         ensures cause { CountFailures (is_port_failed result) self.old.files self.new.files }
     {
-        if levels == 0 {
+        let taken = COPY;
+        if levels < taken {
             return Err(Stop::OutOfMemory);
         }
-        let levels = levels - 1;
+        let levels = levels - taken;
         match value {
             Value::Parenthesized(inner) => self.copy_of(scene, inner.get(), levels),
             Value::Read(place) => self.copy_of_place(scene, place.get(), levels),

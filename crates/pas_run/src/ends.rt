@@ -24,6 +24,18 @@ pub(crate) enum Stop {
     OutOfMemory,
 }
 
+impl Stop {
+    // Whether a run that stops so came to an end, and was not cut off.
+    pub(crate) fn is_end(self) -> bool
+        ensures { result ≡ spec.is_end self }
+    {
+        match self {
+            Stop::PortFailed | Stop::OutOfMemory => false,
+            Stop::Halted(_) | Stop::Going | Stop::Wrong(_) | Stop::TooDeep => true,
+        }
+    }
+}
+
 // How a statement goes on.
 #[derive(Clone, Copy, Debug, PartialEq, Eq)]
 pub(crate) enum Flow {

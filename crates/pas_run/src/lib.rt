@@ -21,6 +21,7 @@ mod refusals;
 mod runs;
 mod selectors;
 mod spots;
+mod stack;
 mod start;
 mod statements;
 mod transfers;
@@ -28,4 +29,5 @@ mod values;
 
 pub use answers::{End, RunErr};
 pub use files::{Ahead, FileState, RunFile, Usage};
+pub use over_ports::run;
 pub use refusals::Refused;

@@ -416,7 +416,7 @@ impl<P: Port> Machine<P> {
         ensures failures { map P.failures ports.new.items ≡ map (λ file. file.failures) self.files }
     {
         for file in self.files {
-            ports.push(file.port).unwrap();
+            ports.push_reserved(file.port);
         }
     }
 }

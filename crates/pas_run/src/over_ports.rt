@@ -4,7 +4,7 @@ ghost use Rattle.wb_ports.specs.PortState.{PortState};
 ghost use Rattle.pas_typed.specs.Lawful.{IsLawful};
 ghost use Rattle.pas_typed.specs.TypedViews.{program_view};
 ghost use Rattle.pas_meaning.specs.Trial.{parameters_of};
-ghost use Rattle.pas_run.specs.WholeRuns.{Reports, Hold, KeepsPorts, CountsFailures};
+ghost use Rattle.pas_run.specs.WholeRuns.{Reports, Hold, KeepsPorts, CountsFailures, is_stopped_by_port};
 ghost use Rattle.pas_run.specs.inner.Binding.{HasPortName, AreBound, state_at_start, activations_at_start, answer_by};
 ghost use Rattle.pas_run.specs.inner.Copying.{IsFound};
 ghost use Rattle.pas_run.specs.inner.Doings.{is_failure};
@@ -14,16 +14,48 @@ use crate::answers::{End, RunErr};
 use crate::cells::Cell;
 use crate::ends::Stop;
 use crate::files::RunFile;
-use crate::layouts::{Layout, Layouts, Scene};
 use crate::laying::layouts_of;
+use crate::layouts::{Layout, Layouts, Scene};
 use crate::machine::Machine;
 use crate::runs::{is_text, name_of};
 use crate::start::global_cells;
+use pas_rules::Typed;
 use pas_typed::typed::TypedProgram;
 use sqlite_items::Items;
 use std::alloc::Global;
 use std::mem;
 use wb_ports::{Failed, Port};
+
+/// Runs a program on its files, which the first ports are, for at most so many steps: port k becomes the k-th parameter
+/// of the program. The ports behind them are dropped first. Each of the others is told the name of its file, and is
+/// finished behind the run, unless a call of a port failed or no memory was found; after a failed call no port is called
+/// again. What the program writes goes to the port when it is written.
+///
+/// # Errors
+///
+/// `TooDeep` where a call begins while 999 are active, with the files of that moment. `PortFailed` where a call of a port
+/// failed: the ports then hold what the files held at a moment of the run. `OutOfMemory` where no memory was found, or
+/// where the program nests deeper than the stack of the machine allows: nothing is said of the bytes then.
+pub fn run(
+    alloc: Global,
+    program: &Typed,
+    steps: u64,
+    ports: &mut Vec<Box<dyn Port>>,
+) -> Result<End, RunErr>
+    requires { length program.now.files ≤ length ports.old.items }
+
+    // A run ends as the trial does, and its ports hold then what that says; or a failed call cuts it off at a moment.
+    ensures reports { (given : List PortState) → take (length program.now.files)
+        (map (λ port. (Port-box port).told port.value) ports.old.items) ≡ map Some given
+        → Reports (program_view program.now) given steps result
+        (map (λ port. (Port-box port).told port.value) ports.new.items) }
+    ensures keeps { KeepsPorts result (length program.now.files) ports.old.items ports.new.items }
+    ensures cause { CountsFailures (is_stopped_by_port result) (take (length program.now.files)
+        (map (λ port. (Port-box port).failures port.value) ports.old.items)) (take (length program.now.files)
+        (map (λ port. (Port-box port).failures port.value) ports.new.items)) }
+{
+    answer(stop_of_run(alloc, program.program(), steps, ports))
+}
 
 // The answer of a run that stops so.
 fn answer(why: Stop) -> Result<End, RunErr>
@@ -108,13 +140,7 @@ impl<P: Port> Ready<P> {
     }
 
     // A run over the first ports: the others are dropped. The list holds the ports of the files then.
-    fn run(
-        self,
-        alloc: Global,
-        program: &TypedProgram,
-        steps: u64,
-        ports: &mut Vec<P>,
-    ) -> Stop
+    fn run(self, alloc: Global, program: &TypedProgram, steps: u64, ports: &mut Vec<P>) -> Stop
         requires lawful { IsLawful (program_view program.now) }
         requires names { All HasPortName (parameters_of (program_view program.now)) }
         requires many { length program.now.files ≤ length ports.old.items }
@@ -135,7 +161,7 @@ impl<P: Port> Ready<P> {
             (map P.failures ports.new.items) }
     {
         ports.truncate(program.files.len());
-        if bind_all(program, ports.as_mut_slice()).is_err() {
+        if bind_all(program, ports).is_err() {
             return Stop::PortFailed;
         }
         let bound = mem::replace(ports, self.room);
@@ -153,14 +179,17 @@ impl<P: Port> Ready<P> {
 }
 
 // Each port is told the name of its file.
-fn bind_all<P: Port>(program: &TypedProgram, ports: &mut [P]) -> Result<(), Failed>
+fn bind_all<P: Port>(program: &TypedProgram, ports: &mut Vec<P>) -> Result<(), Failed>
     requires names { All HasPortName (parameters_of (program_view program.now)) }
-    requires many { length ports.old ≡ length program.now.files }
+    requires many { length ports.old.items ≡ length program.now.files }
 
-    ensures bound { OnOk result (AreBound (parameters_of (program_view program.now)) (map P.told ports.old)
-        (map P.told ports.new)) }
-    ensures bytes { (bytes : List (List ℕ)) → Hold bytes (map P.told ports.old) → Hold bytes (map P.told ports.new) }
-    ensures cause { CountsFailures (is_err result) (map P.failures ports.old) (map P.failures ports.new) }
+    ensures bound { OnOk result (AreBound (parameters_of (program_view program.now)) (map P.told ports.old.items)
+        (map P.told ports.new.items)) }
+    ensures bytes { (bytes : List (List ℕ)) → Hold bytes (map P.told ports.old.items)
+        → Hold bytes (map P.told ports.new.items) }
+    ensures many { length ports.new.items ≡ length ports.old.items }
+    ensures cause { CountsFailures (is_err result) (map P.failures ports.old.items)
+        (map P.failures ports.new.items) }
 {
     for number in 0..ports.len() {
         ports[number].bind(name_of(program, number))?;
@@ -185,9 +214,7 @@ fn files_over<P: Port>(
     let mut files = files;
     for port in ports {
         let number = files.len();
-        files
-            .push(RunFile::new(port, is_text(program, number)))
-            .unwrap();
+        files.push_reserved(RunFile::new(port, is_text(program, number)));
     }
     files
 }

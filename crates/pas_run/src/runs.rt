@@ -19,14 +19,11 @@ ghost use Rattle.pas_run.specs.inner.Starting.{EndsAs, EndsFinished};
 use crate::ends::Stop;
 use crate::layouts::Scene;
 use crate::machine::Machine;
+use crate::stack::STACK;
 use pas_syntax::tree::Span;
-use pas_typed::types::PasType;
 use pas_typed::typed::TypedProgram;
+use pas_typed::types::PasType;
 use wb_ports::Port;
-
-// The levels of statements, values and places inside one another that a run may have at once: the machine's stack holds
-// so many of their frames (docs/DECISIONS.md says how it was measured).
-const LEVELS: u32 = 16_000;
 
 impl<P: Port> Machine<P> {
     // A whole run: it ends with 0 behind its last statement.
@@ -55,7 +52,7 @@ impl<P: Port> Machine<P> {
             (pascal_trial (program_view scene.entry.program.now) given self.old.steps) self.new result }
         ensures cause { CountFailures (is_failure result) self.old.files self.new.files }
     {
-        match self.whole_run(scene, LEVELS) {
+        match self.whole_run(scene, STACK) {
             Ok(()) => self.finished(Stop::Halted(0)),
             Err(why) => self.finished(why),
         }
@@ -70,14 +67,12 @@ impl<P: Port> Machine<P> {
         ensures cause { (before : List KeptFile) → CountFailures (is_failure why) before self.old.files
             → CountFailures (is_failure result) before self.new.files }
     {
-        match why {
-            Stop::PortFailed | Stop::OutOfMemory => why,
-            Stop::Halted(_) | Stop::Going | Stop::Wrong(_) | Stop::TooDeep => {
-                match self.finish_files() {
-                    Ok(()) => why,
-                    Err(_) => Stop::PortFailed,
-                }
-            }
+        if !why.is_end() {
+            return why;
+        }
+        match self.finish_files() {
+            Ok(()) => why,
+            Err(_) => Stop::PortFailed,
         }
     }
 

@@ -25,6 +25,7 @@ use crate::ends::{Flow, Stop, next_behind};
 use crate::layouts::Scene;
 use crate::machine::Machine;
 use crate::spots::fits;
+use crate::stack;
 use crate::values::file_variable;
 use pas_meaning::{NO_CASE_MATCHES, STATUS_OUT_OF_RANGE};
 use pas_typed::typed::{Arm, Arms, FileStep, Place, Slot, Statement, Value};
@@ -44,10 +45,11 @@ impl<P: Port> Machine<P> {
             self.new result }
         ensures cause { CountFailures (is_port_failed result) self.old.files self.new.files }
     {
-        if levels == 0 {
+        let taken = stack::of_statement(statement);
+        if levels < taken {
             return Err(Stop::OutOfMemory);
         }
-        let levels = levels - 1;
+        let levels = levels - taken;
         match statement {
             Statement::Empty => Ok(Flow::Next),
             Statement::Assigns(place, right) => {

@@ -17,6 +17,7 @@ use crate::ends::Stop;
 use crate::layouts::Scene;
 use crate::machine::Machine;
 use crate::spots::fits;
+use crate::stack;
 use pas_meaning::WRONG_MODE;
 use pas_syntax::{Adding, Multiplying, Relation, Sign};
 use pas_typed::typed::{FileTest, Function, Place, Slot, Value};
@@ -35,10 +36,11 @@ impl<P: Port> Machine<P> {
         ensures does { Evaluates scene.entry (value_view value.now) self.old self.new result }
         ensures cause { CountFailures (is_port_failed result) self.old.files self.new.files }
     {
-        if levels == 0 {
+        let taken = stack::of_value(value);
+        if levels < taken {
             return Err(Stop::OutOfMemory);
         }
-        let levels = levels - 1;
+        let levels = levels - taken;
         match value {
             Value::Constant(_, found) => within_maxint(*found),
             Value::Read(place) => self.read(scene, place.get(), levels),

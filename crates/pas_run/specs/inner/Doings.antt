@@ -30,6 +30,12 @@ abbrev pub is_failure : Stop → Bool
 is_failure stop.PortFailed = true
 is_failure why = false
 
+-- whether a run that stops so came to an end, and was not cut off
+abbrev pub is_end : Stop → Bool
+is_end stop.PortFailed = false
+is_end stop.OutOfMemory = false
+is_end why = true
+
 abbrev pub is_port_failed : {T : Type 0} → Result T Stop → Bool
 is_port_failed (Ok value) = false
 is_port_failed (Err why) = is_failure why

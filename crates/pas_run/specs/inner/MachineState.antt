@@ -45,11 +45,12 @@ pub record IsRun (kinds : Kinds) (ports : List PortState) (machine : MachineStat
   pub stands : Stands kinds run.store
   pub world : IsWorld ports machine run.world
 
--- the count of failed calls of one port rose; or all are as they were
+-- the count of failed calls of one port rose; or all are as they were. There are as many files
 abbrev pub failures_of : List KeptFile → List ℕ
 failures_of files = map (λ kept. kept.failures) files
 
 pub record SomeRose (before now : List KeptFile) : Type 0 where
+  pub many : length now ≡ length before
   pub number : ℕ
   pub there : number < length before
   pub rose : Rose (slice_index_or (failures_of before) number 0) (slice_index_or (failures_of now) number 0)
