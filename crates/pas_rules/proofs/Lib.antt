@@ -23,5 +23,4 @@ pub mod BodiedRoutines
 pub mod LinkedGlobals
 pub mod LawfulFiles
 pub mod LawfulPrograms
-pub mod ShortNames
 pub mod HeldTexts
