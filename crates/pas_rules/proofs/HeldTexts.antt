@@ -8,6 +8,7 @@ use Rattle.std.specs.List.{take_while}
 use Rattle.std.specs.Option.{option_map_or}
 use Rattle.std.specs.Char.{is_ascii_alphabetic, is_ascii_digit, to_ascii_lowercase}
 use Rattle.std.proofs.lemmas.Option.{none-some, same_Some}
+use Rattle.std.proofs.lemmas.List.{length-map}
 use Rattle.std.proofs.lemmas.List.Elements.{recursion_from_All}
 use Rattle.std.proofs.lemmas.Bool.Decides.{nat_tests}
 use Rattle.wb_base.specs.declared.faults.Fault.{Fault}
@@ -27,10 +28,11 @@ use Rattle.pas_syntax.specs.Parse as parse
 use Rattle.pas_syntax.specs.Parse.{IsSound, fault_by, left_out, tokens_in}
 use Rattle.pas_typed.specs.Typed.{TypedProgram}
 use Rattle.pas_typed.specs.Lawful.{IsLawful}
+use Rattle.pas_rules.specs.FileNames.{HasShortNames}
 use Rattle.pas_rules.specs.Check.{Means}
 use Rattle.pas_rules.proofs.CleanLemmas.{Each}
 use Rattle.pas_rules.proofs.HeldWords.{AreBytes, IsHeldBy, IsHeld, AreHeld}
-use Rattle.pas_rules.proofs.LawfulPrograms.{means_lawful}
+use Rattle.pas_rules.proofs.LawfulPrograms.{means_lawful, means_short}
 
 either : {A : Type 0} (P : A → Type 0) (b : Bool) (one other : A) → (b ≡ true → P one) → (b ≡ false → P other)
     → P (if b then one else other)
@@ -56,7 +58,14 @@ name_held text =
     (λ short. by_option IsHeldCut (kind_in reserved_words (map to_ascii_lowercase word))
     (λ kind. record { kind = kind; payload = nothing; rest = drop (length word) text })
     (record { kind = k.Name; payload = spelling (map to_ascii_lowercase word); rest = drop (length word) text })
-    (λ kind. tt) tt)
+    (λ kind. tt) (not_longer word short))
+  where
+    not_longer : (word : List ℕ) → nat_lt NAME_LIMIT (length word) ≡ false
+        → length (map to_ascii_lowercase word) ≤ NAME_LIMIT
+    not_longer word is =
+        let same = length-map word to_ascii_lowercase in
+        let within : length word ≤ NAME_LIMIT = grind (arith, nat_tests) in
+        omega (arith, same, within)
 
 number_held : (text : List ℕ) → Holds (cutting.number_cut text)
 number_held text =
@@ -222,3 +231,9 @@ pub text_lawful : (program : Program) (meaning : TypedProgram) → parse.IsOfTex
     → IsLawful meaning
 text_lawful program meaning text means =
     means_lawful program (text_held text.0 program text.1) meaning means
+
+-- and its files have short names
+pub text_short : (program : Program) (meaning : TypedProgram) → parse.IsOfText program → Means program meaning
+    → HasShortNames meaning
+text_short program meaning text means =
+    means_short program (text_held text.0 program text.1) meaning means

@@ -48,6 +48,8 @@ use Rattle.pas_rules.proofs.LinkedGlobals.{global_row_links, routines_link, AreF
 use Rattle.pas_rules.proofs.LawfulStatements.{statements_lawful}
 use Rattle.pas_rules.proofs.LawfulRoutines.{LeavesRoutine, routines_lawful, body_stays}
 use Rattle.pas_rules.proofs.BodiedRoutines.{Bodied, LeavesBodied, routines_bodied, bodies_there, all_once}
+use Rattle.pas_rules.specs.FileNames.{name_in, HasShortNames}
+use Rattle.pas_rules.proofs.ShortNames.{IsShort, program_short}
 use Rattle.pas_rules.proofs.LawfulFiles.{IsFileNumber, parameters_lawful, files_lawful, files_once}
 
 -- words without a first fault show none
@@ -403,3 +405,15 @@ means_lawful program held meaning means =
     held).bodies
     (list program held).value meaning means.1 in
     subst IsLawful found.4 (made_lawful program held means.0 found.0 found.1 found.2 found.3)
+
+-- and its files have short names
+pub means_short : (program : Program) → AreHeld (program_words program) → (meaning : TypedProgram)
+    → Means program meaning → HasShortNames meaning
+unfolding checked_of
+means_short program held meaning means =
+    let outer : Outer = (routines program held).outer in
+    let found = some_of (λ bodies statements. made_of program held means.0 bodies statements) (routines program
+    held).bodies
+    (list program held).value meaning means.1 in
+    subst HasShortNames found.4 (All-from_recursion (λ number. IsShort (name_in outer.globals number))
+    (spec.file_numbers outer.globals (spec.parameter_names program)) (program_short program outer.globals held))

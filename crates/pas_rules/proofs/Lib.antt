@@ -23,4 +23,5 @@ pub mod BodiedRoutines
 pub mod LinkedGlobals
 pub mod LawfulFiles
 pub mod LawfulPrograms
+pub mod ShortNames
 pub mod HeldTexts

@@ -10,4 +10,5 @@ pub mod Routines
 pub mod HeadingWords
 pub mod Check
 pub mod Checked
+pub mod FileNames
 pub mod CheckRows

@@ -4,6 +4,7 @@ ghost use Rattle.std.specs.Result.{OkIff};
 ghost use Rattle.pas_typed.specs.TypedViews.{program_view};
 ghost use Rattle.pas_typed.specs.Lawful.{IsLawful};
 ghost use Rattle.pas_rules.specs.Checked.{IsChecked};
+ghost use Rattle.pas_rules.specs.FileNames.{HasShortNames};
 
 use pas_typed::typed::TypedProgram;
 use std::marker::Model;
@@ -51,6 +52,7 @@ impl Typed {
         ensures program { result.now ≡ self.now }
         ensures checked { IsChecked self.now }
         ensures lawful { IsLawful (program_view self.now) }
+        ensures names { HasShortNames (program_view self.now) }
     {
         &self.program
     }
