@@ -22,8 +22,11 @@ use wb_base::faults::{STRINGS_OUTSIDE_WRITE, UNKNOWN_NAME, WRONG_TYPE};
 /// A value of an ordinal type, and the line of the last token of what tells it.
 #[derive(Clone, Copy)]
 pub struct Ordinal {
+    /// What the value is.
     pub base: Base,
+    /// The value as a number.
     pub value: i64,
+    /// The line of the last token.
     pub line: u32,
 }
 

@@ -13,8 +13,11 @@ use wb_base::faults::WRONG_TYPE;
 /// rule, and whether something is missing at the token behind.
 #[derive(Clone, Copy)]
 pub struct End {
+    /// The line of the last token.
     pub line: u32,
+    /// The lowest fault that the last token shows.
     pub refusal: Option<Wrong>,
+    /// Whether something is missing at the token behind.
     pub is_short: bool,
 }
 
@@ -22,7 +25,9 @@ pub struct End {
 /// token is seen.
 #[derive(Drop)]
 pub struct Judged<T> {
+    /// What the part means.
     pub value: T,
+    /// How it ends.
     pub end: End,
 }
 

@@ -16,24 +16,38 @@ use std::marker::Model;
 /// The required procedures that are no steps of a file.
 #[derive(Clone, Copy, Debug, PartialEq, Eq)]
 pub enum Procedure {
+    /// `read`.
     Read,
+    /// `readln`.
     Readln,
+    /// `write`.
     Write,
+    /// `writeln`.
     Writeln,
+    /// `uexit`.
     Uexit,
 }
 
 /// What a name stands for. One of which the declaration shows a fault is unclear.
 #[derive(Clone, Copy, Debug, PartialEq, Eq)]
 pub enum Entity {
+    /// A constant: its base, and its value as a number.
     Constant(Base, i64),
+    /// A type.
     Type(PasType),
+    /// A variable.
     Variable(Slot),
+    /// The routine with this number.
     Routine(u32),
+    /// A required function.
     Function(Function),
+    /// `eof` or `eoln`.
     FileTest(FileTest),
+    /// A required procedure that is a step of a file.
     FileStep(FileStep),
+    /// Another required procedure.
     Procedure(Procedure),
+    /// A name of which the declaration shows a fault.
     Unclear,
 }
 

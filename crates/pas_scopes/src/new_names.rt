@@ -15,8 +15,11 @@ use wb_base::faults::DUPLICATE_NAME;
 /// Where names are declared.
 #[derive(Clone, Copy)]
 pub enum Region {
+    /// In the program.
     Program,
+    /// In a routine.
     Routine,
+    /// As a field of a record.
     Record,
 }
 

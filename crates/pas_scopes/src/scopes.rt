@@ -19,6 +19,7 @@ use std::alloc::{AllocError, Global};
 /// The scope of a routine with this number.
 #[derive(Drop)]
 pub struct Inner<'p> {
+    /// The number of the routine.
     pub number: u32,
     /// Its labels.
     pub labels: Items<u32>,
@@ -33,13 +34,16 @@ pub struct Inner<'p> {
 /// A routine as far as it is known, and the scope that its heading makes, while its body is still to come.
 #[derive(Drop)]
 pub struct KnownRoutine<'p> {
+    /// Its heading.
     pub heading: Heading,
+    /// The scope that its heading makes, while its body is still to come.
     pub awaited: Option<Inner<'p>>,
 }
 
 /// The scopes at a place in a program. Nothing in them changes while statements are looked at.
 #[derive(Drop)]
 pub struct Scopes<'p> {
+    /// Where memory is found.
     pub alloc: Global,
     /// The spellings of the program's names and strings.
     pub spellings: &'p [u8],

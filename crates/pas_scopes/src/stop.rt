@@ -56,7 +56,9 @@ pub(crate) fn maybe_before<T>(line: Option<u32>, found: Result<T, Stop>) -> Resu
 /// What is wrong with a token: a fault, and of what is left out which part.
 #[derive(Clone, Copy)]
 pub struct Wrong {
+    /// The number of the fault.
     pub code: u16,
+    /// Which part is left out, or 0.
     pub which: u8,
 }
 
