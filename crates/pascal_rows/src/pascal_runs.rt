@@ -27,7 +27,7 @@ enum Told {
 }
 
 // What a run answers, in one word.
-fn told(end: Result<End, RunErr>) -> Told {
+fn end_told(end: Result<End, RunErr>) -> Told {
     match end {
         Ok(End::Halted(status)) => Halts(status),
         Ok(End::Going) => Goes,
@@ -72,7 +72,7 @@ fn run_over(
     if (program.file_count() as usize) > ports.len() {
         return Ok(None);
     }
-    Ok(Some(told(run(alloc, &program, steps, ports))))
+    Ok(Some(end_told(run(alloc, &program, steps, ports))))
 }
 
 // Whether a port gives these bytes, and then is at its end.
@@ -598,22 +598,22 @@ fn a_failed_call_ends_a_run_at_a_moment(rt: HostRuntime) -> Result<(), Fail> {
         FailRow(ECHO, MANY, Wrong(11), &[b"old", b"old", b"", b"", b"a", b"a\n", b"a\n"]),
     ];
     for (index, row) in rows.iter().enumerate() {
-        let last = row.3.len();
-        for number in 1..=last {
+        for (before, held) in row.3.iter().enumerate() {
+            let number = (before as u64).saturating_add(1);
+            let is_last = before + 1 == row.3.len();
             // The call behind those of the run is one of the test.
-            let fails = [number as u64, number as u64 + 1];
-            let failing = if number == last {
-                &fails[..1]
-            } else {
-                &fails[..]
-            };
-            let mut ports = three_ports(rt.alloc(), b"ab", b"old", failing)?;
+            let fails = [number, number.saturating_add(1)];
+            let count = if is_last { 1 } else { 2 };
+            let mut ports = three_ports(rt.alloc(), b"ab", b"old", &fails[..count])?;
             let end = run_over(rt.alloc(), row.0.as_bytes(), row.1, &mut ports)?;
-            let wanted = if number == last { row.2 } else { PortFails };
+            let wanted = if is_last { row.2 } else { PortFails };
             assert_eq!(rt; (index, number, end), (index, number, Some(wanted)));
-            let is_next = ports[0].rewind().is_err();
+            let is_next = match ports.first_mut() {
+                Some(first) => first.rewind().is_err(),
+                None => false,
+            };
             let as_told = match ports.pop() {
-                Some(mut port) => holds(&mut port, row.3[number - 1]),
+                Some(mut last) => holds(&mut last, *held),
                 None => false,
             };
             assert_eq!(rt;
