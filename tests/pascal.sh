@@ -1,6 +1,6 @@
 #!/usr/bin/env bash
-# Runs the programs of tests/pascal, which mean the same in ISO Pascal, by `web2c prun` and as Free Pascal (Debian's fpc)
-# compiles them, and compares what each file of a program holds behind the run. A file NAME.FILE is what FILE holds
+# Runs the programs of tests/pascal, which mean the same in ISO Pascal, by `web2c prun` and as Free Pascal (Debian's
+# fpc) compiles them, and compares what each file of a program holds behind the run. A file NAME.FILE is what FILE holds
 # before; a file that has none is empty. A byte 26, which Free Pascal puts behind a text, is passed. Where Free Pascal
 # is not installed, it says so, and compares nothing. No part of the gate. The program is the one that the first word
 # names; without a word it is run by the script `web2c`.
