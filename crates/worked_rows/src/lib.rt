@@ -9,23 +9,11 @@ mod expansions;
 #[cfg(test)]
 mod faults_and_texts;
 #[cfg(test)]
-mod fields;
-#[cfg(test)]
 mod names;
 #[cfg(test)]
 mod outside;
 #[cfg(test)]
-mod pascal_grammar;
-#[cfg(test)]
-mod pascal_runs;
-#[cfg(test)]
-mod pascal_tokens;
-#[cfg(test)]
-mod pascal_types;
-#[cfg(test)]
 mod pools;
-#[cfg(test)]
-mod run_files;
 #[cfg(test)]
 mod scans;
 #[cfg(test)]

@@ -702,6 +702,7 @@ fn files_are_read_and_written(rt: HostRuntime) -> Result<(), Fail> {
         Row("read(\n'x'\n)", Faulty(56, 2)),
         Row("read(\nletter\n)", Faulty(56, 2)),
         Row("read(\na\n)", Faulty(56, 2)),
+        Row("read(\nu\n)", Faulty(56, 2)),
         Row("read((c\n)\n)", Faulty(56, 2)),
         Row("read(\n'ab'\n)", LeftOut(10, 2)),
         Row("read(c,\nf\n)", Faulty(56, 2)),
@@ -793,20 +794,20 @@ fn long_texts_stay_within_limits(rt: HostRuntime) -> Result<(), Fail> {
         Numbered { front: "program t;", part: "procedure\np", middle: "(a", end: ":char);begin end;", times: 4097,
             back: "begin end.", answer: Faulty(60, 4098) },
         // types of types, each of one cell, and each of twice as many
-        Numbered { front: "program t;type a0=char;", part: "a", middle: "=array[1..1] of a", end: ";", times: 5000,
+        Numbered { front: "program t;type a0=char;", part: "a", middle: "=array[1..1] of a", end: ";", times: 1000,
             back: "begin end.", answer: Lawful },
         Numbered { front: "program t;type a0=char;", part: "a", middle: "=record x,y:a", end: " end;\n", times: 22,
             back: "begin end.", answer: Lawful },
         Numbered { front: "program t;type a0=char;", part: "a", middle: "=record x,y:a", end: " end;\n", times: 70,
             back: "begin end.", answer: Faulty(60, 23) },
         // globals, cells of a routine, and constants of a case
-        Numbered { front: "program t;var c:char;", part: "a", middle: ",b", end: ":char;\n", times: 3000,
-            back: "c:char;begin end.", answer: Faulty(55, 3001) },
+        Numbered { front: "program t;var c:char;", part: "a", middle: ",b", end: ":char;\n", times: 1000,
+            back: "c:char;begin end.", answer: Faulty(55, 1001) },
         Numbered { front: "program t;procedure p;var ", part: "a", middle: ",b", end: ":char;", times: 2048,
             back: "begin end;begin end.", answer: Lawful },
         Numbered { front: "program t;procedure p;var ", part: "a", middle: ",b", end: ":\nchar;", times: 2049,
             back: "begin end;begin end.", answer: Faulty(60, 2050) },
-        Numbered { front: "program t;begin case 1 of 3000:", part: ";", middle: ",-", end: ":", times: 2000,
+        Numbered { front: "program t;begin case 1 of 3000:", part: ";", middle: ",-", end: ":", times: 300,
             back: ";\n1:end end.", answer: Faulty(55, 2) },
     ];
     for (index, row) in rows.iter().enumerate() {
@@ -868,7 +869,7 @@ fn deep_texts_stay_within_limits(rt: HostRuntime) -> Result<(), Fail> {
 }
 
 // A program that lists string pools.
-const POOL_LISTING: &[u8] =
+pub(crate) const POOL_LISTING: &[u8] =
     b"program listpool(pool,output);label 9999;var pool:text;hex:array[0..15] of char;\
     k,n,s,total:integer;m:char;done:boolean;procedure put_code(c:integer);begin if (c>=32) and (c<=126) then \
     begin write(output,chr(c));total:=total+1;if c=34 then write(output,chr(c));end else if c<128 then \
