@@ -1,5 +1,5 @@
--- Words that tokens of a text can be: a number is at most the greatest one, a string is of bytes, a name is not too long,
--- and none shows a part of Pascal that is left out.
+-- Words that tokens of a text can be: a number is at most the greatest one, a string is of bytes, a name is not too
+-- long, and none shows a part of Pascal that is left out.
 use Rattle.std.proofs.Common.{◌≡◌, ℕ, ◌≤◌, List, ◌∷◌, ◌++◌, length, None}
 use Rattle.std.specs.Prelude.{⊤}
 use Rattle.pas_tokens.specs.declared.kinds.Kind.{Kind}

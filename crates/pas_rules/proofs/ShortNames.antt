@@ -66,7 +66,8 @@ number_short globals name number is short =
 files_short : (globals : List Variable) (names : List (List ℕ)) → Each IsShort names
     → Each (λ number. IsShort (name_in globals number)) (spec.file_numbers globals names)
 files_short globals [] short = tt
-files_short globals (name ∷ names) short = by_number (number_named globals name) refl (files_short globals names short.1)
+files_short globals (name ∷ names) short =
+    by_number (number_named globals name) refl (files_short globals names short.1)
   where
     by_number : (number : Option ℕ) → number_named globals name ≡ number
         → Each (λ number. IsShort (name_in globals number)) (spec.file_numbers globals names)

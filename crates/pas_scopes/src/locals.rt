@@ -37,10 +37,7 @@ use wb_base::faults::{FILE_RULE, TOO_LARGE};
 use wb_base::{Fault, OutOfMemory};
 
 /// Declares variables of a routine.
-pub fn locals_of(
-    scopes: &mut Scopes<'_>,
-    rows: Option<&Rows<VariableRow>>,
-) -> Result<(), Stop>
+pub fn locals_of(scopes: &mut Scopes<'_>, rows: Option<&Rows<VariableRow>>) -> Result<(), Stop>
     ensures passes { (inner : Inner) → IsWithin inner scopes.old → Passes
         (words_if (rows_words k.Var variable_row_words)
         (if_there (rows_in scopes.old.spellings.now (variable_row_in scopes.old.spellings.now))

@@ -38,7 +38,7 @@ of_checked-requires c = (
   program_in c.args.program.now.spellings c.args.program.now.tree,
   c.tree.ensures.of_text,
   subst (λ (p : Program). Means p (program_view c.in_ok-program.program))
-  (λ i. program_in (c.spellings.ensures i) (c.tree.ensures.tree i)) c.in_ok-program.ensures,
+      (λ i. program_in (c.spellings.ensures i) (c.tree.ensures.tree i)) c.in_ok-program.ensures,
 )
 
 pub returns-clause-ok : goal.returns-clause-ok
