@@ -134,8 +134,8 @@ bound_next (suc i) (first ∷ parameters) (told ∷ before) [] found tells are i
 bound_next (suc i) (first ∷ parameters) (told ∷ before) (next ∷ between) found tells are is less own =
     (are.0, bound_next i parameters before between found tells are.1 is (omega (arith, less)) own)
 
-bound_all : (i : ℕ) (parameters : List Variable) (before now : List (Option PortState)) → BoundTo i parameters before now
-    → length before ≤ i → length parameters ≡ length before → AreBound parameters before now
+bound_all : (i : ℕ) (parameters : List Variable) (before now : List (Option PortState))
+    → BoundTo i parameters before now → length before ≤ i → length parameters ≡ length before → AreBound parameters before now
 bound_all zero [] [] now are less many = subst (λ (now : List (Option PortState)). AreBound [] [] now) (sym are) tt
 bound_all zero [] (told ∷ before) now are less many = absurd (omega (arith, less))
 bound_all zero (found ∷ parameters) [] now are less many = absurd (omega (arith, many))
@@ -149,7 +149,8 @@ bound_all (suc i) (found ∷ parameters) (told ∷ before) (tells ∷ now) are l
 -- a port that is bound holds what it held
 own_holds : (name bytes : List ℕ) (others : List (List ℕ)) (told tells : Option PortState)
     (before now : List (Option PortState)) → WhereTold (Becomes (named_port name)) told tells
-    → (Hold others before → Hold others now) → Hold (bytes ∷ others) (told ∷ before) → Hold (bytes ∷ others) (tells ∷ now)
+    → (Hold others before → Hold others now) → Hold (bytes ∷ others) (told ∷ before)
+    → Hold (bytes ∷ others) (tells ∷ now)
 own_holds name bytes others None tells before now own rest hold = absurd hold
 own_holds name bytes others (Some told) None before now own rest hold = absurd own
 own_holds name bytes others (Some told) (Some tells) before now own rest hold =

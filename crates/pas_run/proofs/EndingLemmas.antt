@@ -1,6 +1,6 @@
 -- The end of a run: each port is finished, or a failed call cut the run off at a moment.
-use Rattle.std.proofs.Common.{◌≡◌, ℕ, zero, suc, ◌+◌, ◌<◌, ◌≤◌, List, [], ◌∷◌, length, map, Option, Some, None, arith, refl}
-use Rattle.std.proofs.Common.{sym, ap, ◌∙◌, subst, slice_index_or, slice_set, Bool, true, false}
+use Rattle.std.proofs.Common.{◌≡◌, ℕ, zero, suc, ◌+◌, ◌<◌, ◌≤◌, List, [], ◌∷◌, length, map, Option, Some, None, arith}
+use Rattle.std.proofs.Common.{refl, sym, ap, ◌∙◌, subst, slice_index_or, slice_set, Bool, true, false}
 use Rattle.std.proofs.lemmas.List.{length-map, get_or_default}
 use Rattle.std.specs.Prelude.{Contains, ⊤}
 use Rattle.wb_ports.specs.Counts.{next_count, grown}

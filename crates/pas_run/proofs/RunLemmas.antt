@@ -88,7 +88,8 @@ module _ (parameters : List Variable) (kinds : Kinds) (before : MachineState) wh
         → Leads (i + 1) now
     leads_next does = record {
       each = λ end result rest most. leads.each end result (λ most. subst
-          (λ (doing : Doing Store (Unit {0})). Does most kinds kinds Any doing between end result) (sym (next_from parameters i found is))
+          (λ (doing : Doing Store (Unit {0})). Does most kinds kinds Any doing between end result)
+          (sym (next_from parameters i found is))
           (does_next {T = Unit {0}} {U = Unit {0}} most kinds kinds kinds Any Any (begun_by i found.name)
           (λ done. begin_from parameters (i + 1)) between now end (tt {0}) result
           (goes_begun i found.name)
@@ -103,7 +104,8 @@ module _ (parameters : List Variable) (kinds : Kinds) (before : MachineState) wh
         → (most : ℕ) → Does {T = Unit {0}} most kinds kinds Any (begin_files 0 parameters) before now (Err why)
     leads_stop why does most =
         leads.each now (Err why) (λ most. subst
-        (λ (doing : Doing Store (Unit {0})). Does {T = Unit {0}} most kinds kinds Any doing between now (Err why)) (sym (next_from parameters i found is))
+        (λ (doing : Doing Store (Unit {0})). Does {T = Unit {0}} most kinds kinds Any doing between now (Err why))
+        (sym (next_from parameters i found is))
         (does_stop {T = Unit {0}} {U = Unit {0}} most kinds kinds kinds Any Any (begun_by i found.name)
         (λ done. begin_from parameters (i + 1)) between now why
         (λ done. goes_begin_files (i + 1) (drop (i + 1) parameters))

@@ -19,8 +19,8 @@ answer_of (trial.ended going) = Ok end.Going
 answer_of (trial.ended too_deep) = Err failure.TooDeep
 answer_of (trial.error kind) = Ok (end.Error kind)
 
--- a port behind a run, which told this before it: it bears the name of its file, holds what the file holds, was finished
--- once more, and was started as often more as the file was reset or rewritten
+-- a port behind a run, which told this before it: it bears the name of its file, holds what the file holds, was
+-- finished once more, and was started as often more as the file was reset or rewritten
 pub record IsBehind (found : Variable) (before : PortState) (file : Told) (now : PortState) : Type 0 where
   pub name : now.name ≡ found.name
   pub bytes : now.bytes ≡ file.bytes

@@ -1,5 +1,6 @@
 //! The run of a program over ports.
-ghost use Rattle.std.specs.Prelude.{◌≡◌, ◌≤◌, ℕ, List, [], ◌∷◌, Some, length, map, take, All, OnOk, is_err, vec_capacity};
+ghost use Rattle.std.specs.Prelude.{◌≡◌, ◌≤◌, ℕ, List, [], ◌∷◌, Some, length, map, take, All, OnOk, is_err};
+ghost use Rattle.std.specs.Prelude.{vec_capacity};
 ghost use Rattle.wb_ports.specs.PortState.{PortState};
 ghost use Rattle.pas_typed.specs.Lawful.{IsLawful};
 ghost use Rattle.pas_typed.specs.TypedViews.{program_view};
@@ -28,14 +29,14 @@ use wb_ports::{Failed, Port};
 
 /// Runs a program on its files, which the first ports are, for at most so many steps: port k becomes the k-th parameter
 /// of the program. The ports behind them are dropped first. Each of the others is told the name of its file, and is
-/// finished behind the run, unless a call of a port failed or no memory was found; after a failed call no port is called
-/// again. What the program writes goes to the port when it is written.
+/// finished behind the run, unless a call of a port failed or no memory was found; after a failed call no port is
+/// called again. What the program writes goes to the port when it is written.
 ///
 /// # Errors
 ///
-/// `TooDeep` where a call begins while 999 are active, with the files of that moment. `PortFailed` where a call of a port
-/// failed: the ports then hold what the files held at a moment of the run. `OutOfMemory` where no memory was found, or
-/// where the program nests deeper than the stack of the machine allows: nothing is said of the bytes then.
+/// `TooDeep` where a call begins while 999 are active, with the files of that moment. `PortFailed` where a call of a
+/// port failed: the ports then hold what the files held at a moment of the run. `OutOfMemory` where no memory was
+/// found, or where the program nests deeper than the stack of the machine allows: nothing is said of the bytes then.
 pub fn run(
     alloc: Global,
     program: &Typed,

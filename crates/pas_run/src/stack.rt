@@ -1,5 +1,5 @@
-//! How much of the machine's stack a run takes: each statement and each value counts down the bytes that the frames from
-//! it to the next one inside it take in the compiled program. docs/DECISIONS.md says how they were measured.
+//! How much of the machine's stack a run takes: each statement and each value counts down the bytes that the frames
+//! from it to the next one inside it take in the compiled program. docs/DECISIONS.md says how they were measured.
 ghost use Rattle.std.specs.Prelude.{◌≤◌};
 
 use pas_syntax::{Adding, Multiplying};

@@ -1,4 +1,5 @@
-use Rattle.std.proofs.Common.{◌<◌, arith, ap, get_or, length, refl, sym, subst, map, true, false, ◌∙◌, slice_set, Result}
+use Rattle.std.proofs.Common.{◌<◌, arith, ap, get_or, length, refl, sym, subst, map, true, false, ◌∙◌, slice_set}
+use Rattle.std.proofs.Common.{Result}
 use Rattle.std.specs.Prelude.{is_err}
 use Rattle.std.proofs.lemmas.Result.{err_from_is_err_and}
 use Rattle.wb_ports.specs.declared.answers.Failed.{Failed}

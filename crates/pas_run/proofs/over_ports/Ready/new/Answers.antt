@@ -58,11 +58,13 @@ returns-in_err-cells-clause-empty g c =
     let kinds = kinds_at_start program in
     let row = flat_row kinds (cells_from program 0 program.globals) in
     found_early {T = Ready g.row.P.Denot g.P.Port}
-    (λ (ready : Ready g.row.P.Denot g.P.Port). (ready.files.items ≡ []) × (ready.room.items ≡ [])) c.in_err-cells.field-0.0
+    (λ (ready : Ready g.row.P.Denot g.P.Port). (ready.files.items ≡ []) × (ready.room.items ≡ []))
+    c.in_err-cells.field-0.0
     c.from_residual-in_err-cells.result (err_from_is_err_and _ c.from_residual-in_err-cells.ensures.1)
     (found_other {T = Vec Cell Global} {U = Ready g.row.P.Denot g.P.Port}
     (λ (now : Vec Cell Global). now.items ≡ row)
-    (λ (ready : Ready g.row.P.Denot g.P.Port). (ready.files.items ≡ []) × (ready.room.items ≡ [])) c.in_err-cells.field-0.0
+    (λ (ready : Ready g.row.P.Denot g.P.Port). (ready.files.items ≡ []) × (ready.room.items ≡ []))
+    c.in_err-cells.field-0.0
     (c.in_err-cells.ensures.found c.requires.types kinds))
 
 pub returns-in_err-cells-clause-room : goal.returns-in_err-cells-clause-room
