@@ -135,7 +135,8 @@ bound_next (suc i) (first ∷ parameters) (told ∷ before) (next ∷ between) f
     (are.0, bound_next i parameters before between found tells are.1 is (omega (arith, less)) own)
 
 bound_all : (i : ℕ) (parameters : List Variable) (before now : List (Option PortState))
-    → BoundTo i parameters before now → length before ≤ i → length parameters ≡ length before → AreBound parameters before now
+    → BoundTo i parameters before now → length before ≤ i → length parameters ≡ length before
+    → AreBound parameters before now
 bound_all zero [] [] now are less many = subst (λ (now : List (Option PortState)). AreBound [] [] now) (sym are) tt
 bound_all zero [] (told ∷ before) now are less many = absurd (omega (arith, less))
 bound_all zero (found ∷ parameters) [] now are less many = absurd (omega (arith, many))
