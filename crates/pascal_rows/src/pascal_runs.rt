@@ -61,6 +61,13 @@ fn three_ports(
     Ok(ports)
 }
 
+// The first of these bytes, at most as many as a file has room for.
+fn first_bytes(bytes: &[u8]) -> &[u8]
+    ensures { length result.now ≤ PORT_LIMIT }
+{
+    &bytes[..bytes.len().min(ROOM)]
+}
+
 // What a run of a program answers over ports, or none where the program is not lawful or has more files than these.
 fn run_over(
     alloc: Global,
@@ -565,7 +572,7 @@ fn steps_are_taken(rt: HostRuntime) -> Result<(), Fail> {
         StepRow("program t(output);begin write(output,1) end.", 0, b"old", Halts(0), b"1"),
     ];
     for (index, row) in rows.iter().enumerate() {
-        let mut ports = three_ports(rt.alloc(), &row.2[..row.2.len().min(ROOM)], b"", &[])?;
+        let mut ports = three_ports(rt.alloc(), first_bytes(row.2), b"", &[])?;
         let end = run_over(rt.alloc(), row.0.as_bytes(), row.1, &mut ports)?;
         assert_eq!(rt; (index, end), (index, Some(row.3)));
         let as_told = match ports.pop() {
