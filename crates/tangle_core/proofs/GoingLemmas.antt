@@ -4,6 +4,7 @@ use Rattle.std.proofs.Common.{sym, ap, subst}
 use Rattle.wb_ports.specs.Counts.{is_failed}
 use Rattle.wb_ports.specs.Held.{WhereTold}
 use Rattle.wb_ports.specs.Files.{Files, SameFiles, Loads, KeepsLastFailure}
+use Rattle.wb_ports.specs.PortState.{PortState}
 use Rattle.wb_ports.specs.declared.answers.PortErr.{PortErr}
 use Rattle.wb_ports.specs.declared.answers.PortErr.TheVariants as port
 use Rattle.wb_ports.specs.declared.shelf.FailedCall.{FailedCall}
@@ -22,14 +23,14 @@ use Rattle.tangle_core.proofs.ReachingLemmas.{last_is, left_told, unfinished_lef
 
 -- a file was left
 pub left_done : (name bytes : List ℕ) (rest : Work) (a b : Option Files) (console : Option (List ℕ))
-    (ports : Option (List (List ℕ))) → WhereTold (LeavesFile name bytes) a b
+    (ports : List (Option PortState)) → WhereTold (LeavesFile name bytes) a b
     → Reaches (does (leaves name bytes) rest) rest (world_of a console ports) (world_of b console ports)
 left_done name bytes rest a b console ports l =
     act_done (leaves name bytes) rest (world_of a console ports) (world_of b console ports)
     (files_now (option_map (with_file name bytes) a) b console ports (left_told name bytes a b l))
 
 unfinished_told : (name bytes : List ℕ) (last : Option FailedCall) (a b : Option Files) (console : Option (List ℕ))
-    (ports : Option (List (List ℕ))) → WhereTold (WritesUnfinished name bytes last) a b
+    (ports : List (Option PortState)) → WhereTold (WritesUnfinished name bytes last) a b
     → StopsAct (leaves name bytes) (by_shelf last) (world_of a console ports) (world_of b console ports)
 unfinished_told name bytes last None None console ports l = (Create, tt, inl (files_now None None console ports tt))
 unfinished_told name bytes last None (Some y) console ports l = absurd l
@@ -43,14 +44,14 @@ unfinished_told name bytes (Some failed) (Some x) (Some y) console ports l = (
 
 -- a file was not left: a call failed, or memory was not found
 pub left_failed : (name bytes : List ℕ) (rest : Work) (last : Option FailedCall) (a b : Option Files)
-    (console : Option (List ℕ)) (ports : Option (List (List ℕ))) → WhereTold (WritesUnfinished name bytes last) a b
+    (console : Option (List ℕ)) (ports : List (Option PortState)) → WhereTold (WritesUnfinished name bytes last) a b
     → Stops (does (leaves name bytes) rest) (by_shelf last) (world_of a console ports) (world_of b console ports)
 left_failed name bytes rest last a b console ports l =
     act_stopped (leaves name bytes) rest (by_shelf last) (world_of a console ports) (world_of b console ports)
     (unfinished_told name bytes last a b console ports l)
 
 pub left_wanting : (name bytes : List ℕ) (rest : Work) (a b : Option Files) (console : Option (List ℕ))
-    (ports : Option (List (List ℕ))) → WhereTold SameFiles a b
+    (ports : List (Option PortState)) → WhereTold SameFiles a b
     → Stops (does (leaves name bytes) rest) by_memory (world_of a console ports) (world_of b console ports)
 left_wanting name bytes rest a b console ports same =
     act_stopped (leaves name bytes) rest by_memory (world_of a console ports) (world_of b console ports)
@@ -76,7 +77,7 @@ goes_err T U work on rest other OutOfMemory last u v goes = goes
 
 -- a load
 load_goes_err : (T : Type 0) (name : List ℕ) (err : PortErr) (on : Going_on) (next : List ℕ → Work)
-    (old last : Option FailedCall) (a b : Option Files) (console : Option (List ℕ)) (ports : Option (List (List ℕ)))
+    (old last : Option FailedCall) (a b : Option Files) (console : Option (List ℕ)) (ports : List (Option PortState))
     → WhereTold SameFiles a b → KeepsLastFailure a Load name (is_failed {T = T} (Err err)) old last
     → Goes {T = List ℕ} (loads name next) on next (Err (by_port err)) last
     (world_of a console ports) (world_of b console ports)

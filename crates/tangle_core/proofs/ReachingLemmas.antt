@@ -1,22 +1,24 @@
 -- Parts of the work that follow one another, and what each has to do with the work that is to be done.
 use Rattle.std.proofs.Common.{◌≡◌, ◌≢◌, ◌∙◌, inl, inr, ℕ, List, [], ◌++◌, Bool, true, false, Option, Some, None}
-use Rattle.std.proofs.Common.{MatchOption, IfSome, OnSome, take, option_map, refl, sym, ap, subst, cond}
+use Rattle.std.proofs.Common.{length, MatchOption, IfSome, OnSome, take, option_map, refl, sym, ap, subst, cond}
 use Rattle.std.specs.Bool.{Decides}
 use Rattle.std.specs.Str.{bytes_eq}
 use Rattle.std.proofs.lemmas.Slice.Eq.{bytes_eq-Decides}
 use Rattle.wb_ports.specs.Held.{WhereTold, Gains}
 use Rattle.wb_ports.specs.Files.{Files, SameFiles, Loads, KeepsLastFailure}
+use Rattle.wb_ports.specs.PortState.{PortState}
 use Rattle.wb_ports.specs.declared.shelf.FailedCall.{FailedCall}
 use Rattle.wb_ports.specs.declared.shelf.ShelfCall.{ShelfCall}
 use Rattle.wb_ports.specs.declared.shelf.ShelfCall.TheVariants.{Load, Create, Write, Close}
 use Rattle.wb_ports.specs.declared.shelf.TheConstants.{LOAD_LIMIT}
 use Rattle.wb_ports.proofs.HeldLemmas.{gains_nothing}
 use Rattle.wb_ports.proofs.FilesLemmas.{same_files}
-use Rattle.tangle_core.specs.Work.{Act, leaves, Work, loads, does, ends, World, with_file, after, IsNow}
-use Rattle.tangle_core.specs.Work.{OfLoaded, Cause, LeavesUnfinished, StopsLoad, StopsAct, Ends, Stops}
+use Rattle.tangle_core.specs.Work.{Act, leaves, RunEnd, Play, Work, loads, asks, plays, does, ends, World, with_file}
+use Rattle.tangle_core.specs.Work.{after, with_ports, IsNow, PlaysTo, OfLoaded, Cause, LeavesUnfinished, StopsLoad}
+use Rattle.tangle_core.specs.Work.{StopsAct, StopsPlay, Ends, Stops}
 use Rattle.tangle_core.specs.Job.{Reaches, world_of}
 use Rattle.tangle_core.specs.inner.Writing.{LeavesFile, LeftBy}
-use Rattle.tangle_core.proofs.WorkLemmas.{now_same, ports_same, ends_along, stops_along}
+use Rattle.tangle_core.proofs.WorkLemmas.{now_same, ends_along, stops_along}
 
 pub reaches_same : (work : Work) (w : World) → Reaches work work w w
 reaches_same work w = record { ends = λ status now e. e; stops = λ cause now s. s }
@@ -57,6 +59,36 @@ pub act_stopped : (act : Act) (rest : Work) (cause : Cause) (before now : World)
 unfolding Stops
 act_stopped act rest cause before now s = inl s
 
+-- the ports were counted
+pub counted : (next : ℕ → Work) (w : World) → Reaches (asks next) (next (length w.ports)) w w
+unfolding Ends Stops
+counted next w = record { ends = λ status now e. e; stops = λ cause now s. s }
+
+-- a run over the ports that ended
+pub play_done : (count : ℕ) (play : List PortState → Play) (next : RunEnd → Work) (ending : RunEnd) (before mid : World)
+    → PlaysTo count play before.ports ending mid.ports → IsNow (with_ports mid.ports before) mid
+    → Reaches (plays count play next) (next ending) before mid
+unfolding Ends Stops
+play_done count play next ending before mid p same = record {
+  ends = λ status now e. (
+    ending,
+    mid.ports,
+    p,
+    ends_along (next ending) status (with_ports mid.ports before) mid now same e,
+  );
+  stops = λ cause now s. inr (
+    ending,
+    mid.ports,
+    p,
+    stops_along (next ending) cause (with_ports mid.ports before) mid now same s,
+  );
+}
+
+pub play_stopped : (count : ℕ) (play : List PortState → Play) (next : RunEnd → Work) (cause : Cause)
+    (before now : World) → StopsPlay count play cause before now → Stops (plays count play next) cause before now
+unfolding Stops
+play_stopped count play next cause before now s = inl s
+
 pub load_stopped : (name : List ℕ) (next : List ℕ → Work) (cause : Cause) (before now : World)
     → StopsLoad name cause before now → Stops (loads name next) cause before now
 unfolding Stops
@@ -85,14 +117,14 @@ load_done name text next before mid is same = record {
       (stops_along (next text) cause before mid now same s));
 }
 
-pub files_now : (a b : Option Files) (console : Option (List ℕ)) (ports : Option (List (List ℕ)))
+pub files_now : (a b : Option Files) (console : Option (List ℕ)) (ports : List (Option PortState))
     → WhereTold SameFiles a b
     → IsNow (world_of a console ports) (world_of b console ports)
-files_now a b console ports same = record { files = same; console = gains_nothing console; ports = ports_same ports }
+files_now a b console ports same = record { files = same; console = gains_nothing console; ports = refl }
 
-pub console_now : (files : Option Files) (a b : Option (List ℕ)) (ports : Option (List (List ℕ))) → Gains [] a b
+pub console_now : (files : Option Files) (a b : Option (List ℕ)) (ports : List (Option PortState)) → Gains [] a b
     → IsNow (world_of files a ports) (world_of files b ports)
-console_now files a b ports same = record { files = same_files files; console = same; ports = ports_same ports }
+console_now files a b ports same = record { files = same_files files; console = same; ports = refl }
 
 -- a call that failed is the last one, where the files are told
 pub last_is : (a : Option Files) (call : ShelfCall) (name : List ℕ) (old last : Option FailedCall)
@@ -127,7 +159,7 @@ kept_at before now name other false d is others =
     others other (λ same. let no : false ≡ true = d.1 same in cc)
 
 pub unfinished_left : (name bytes : List ℕ) (call : ShelfCall) (x y : Files) (console : Option (List ℕ))
-    (ports : Option (List (List ℕ))) → LeftBy call name bytes x y
+    (ports : List (Option PortState)) → LeftBy call name bytes x y
     → LeavesUnfinished call (leaves name bytes) (world_of (Some x) console ports) (world_of (Some y) console ports)
 unfinished_left name bytes Load x y console ports l = absurd l
 unfinished_left name bytes Create x y console ports l = elim l.empty_or_kept [

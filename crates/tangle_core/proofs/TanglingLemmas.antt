@@ -12,6 +12,7 @@ use Rattle.wb_ports.specs.declared.shelf.FailedCall.{FailedCall}
 use Rattle.wb_ports.specs.declared.shelf.TheConstants.{LOAD_LIMIT}
 use Rattle.wb_ports.specs.Held.{WhereTold}
 use Rattle.wb_ports.specs.Files.{Files, SameFiles, Loads}
+use Rattle.wb_ports.specs.PortState.{PortState}
 use Rattle.change_merge.specs.Lines.{Line}
 use Rattle.web_pool.specs.PoolText.{pool_text}
 use Rattle.web_scan.specs.Scanned.{Scanned}
@@ -131,7 +132,7 @@ pascal_first web base on lines (Some fault) = (on.at_fault fault, refl)
 -- the Pascal file was left, up to a fault
 pub pascal_broken : (job : Job) (on : Going_on) (web : Scanned) (name : List ℕ) (fault : Flaw)
     (last : Option FailedCall) (u : World) (a b : Option Files) (console : Option (List ℕ))
-    (ports : Option (List (List ℕ)))
+    (ports : List (Option PortState))
     → name ≡ pascal_name job.base → (tangled (expansion_of web)).fault ≡ Some fault
     → WhereTold (LeavesFile name (text_of_lines (tangled (expansion_of web)).lines)) a b
     → Reaches (tangling job on) (leaves_outcome job.base on (outcome (Ok web))) u (world_of a console ports)
@@ -161,7 +162,7 @@ after_pascal job on web =
     leaves_pool (pool_name job.base) output.pool (on.at_end output)
 
 pub pascal_whole : (job : Job) (on : Going_on) (web : Scanned) (name : List ℕ)
-    (u : World) (a b : Option Files) (console : Option (List ℕ)) (ports : Option (List (List ℕ)))
+    (u : World) (a b : Option Files) (console : Option (List ℕ)) (ports : List (Option PortState))
     → name ≡ pascal_name job.base → (tangled (expansion_of web)).fault ≡ None
     → WhereTold (LeavesFile name (text_of_lines (tangled (expansion_of web)).lines)) a b
     → Reaches (tangling job on) (leaves_outcome job.base on (outcome (Ok web))) u (world_of a console ports)
@@ -177,7 +178,7 @@ pascal_whole job on web name u a b console ports named is left reaches =
 -- the Pascal file was not left, since a call failed or memory was not found
 pub pascal_stopped : (job : Job) (on : Going_on) (web : Scanned) (name : List ℕ) (err : TangleErr)
     (last : Option FailedCall) (u : World) (a b : Option Files) (console : Option (List ℕ))
-    (ports : Option (List (List ℕ)))
+    (ports : List (Option PortState))
     → name ≡ pascal_name job.base
     → IfJobFault {T = ℕ} (Err err) (λ fault. (tangled (expansion_of web)).fault ≡ Some fault)
     → (let result : Result ℕ TangleErr = Err err in
@@ -226,7 +227,7 @@ no_pool name rest = refl
 
 -- the pool was left, or there is none
 pub pool_left : (name : List ℕ) (pool : List (List ℕ)) (rest : Work) (a b : Option Files)
-    (console : Option (List ℕ)) (ports : Option (List (List ℕ)))
+    (console : Option (List ℕ)) (ports : List (Option PortState))
     → (pool ≡ [] → WhereTold SameFiles a b) → (pool ≢ [] → WhereTold (LeavesFile name (pool_text pool)) a b)
     → Reaches (leaves_pool name (pool_text pool) rest) rest (world_of a console ports) (world_of b console ports)
 pool_left name [] rest a b console ports none left =
@@ -239,7 +240,7 @@ pool_left name (text ∷ texts) rest a b console ports none left =
 
 -- the pool was not left
 pub pool_stopped : (name : List ℕ) (pool : List (List ℕ)) (rest : Work) (err : TangleErr) (last : Option FailedCall)
-    (a b : Option Files) (console : Option (List ℕ)) (ports : Option (List (List ℕ))) (on : Going_on)
+    (a b : Option Files) (console : Option (List ℕ)) (ports : List (Option PortState)) (on : Going_on)
     → (pool ≢ []) → IfJobFault {T = Unit {0}} (Err err) (λ fault. ⊥)
     → (let result : Result (Unit {0}) TangleErr = Err err in
     (result ≡ Err Failed → WhereTold (WritesUnfinished name (pool_text pool) last) a b)
@@ -281,7 +282,7 @@ loads_still base text (first ∷ pool) (Some x) (Some y) none left loads =
 
 pub pool_refused : (job : Job) (on : Going_on) (web : Scanned) (name : List ℕ) (pool : List (List ℕ)) (err : TangleErr)
     (last : Option FailedCall) (u : World) (a b : Option Files) (console : Option (List ℕ))
-    (ports : Option (List (List ℕ)))
+    (ports : List (Option PortState))
     → name ≡ pool_name job.base → pool ≡ web.strings
     → pool ≢ [] → IfJobFault {T = Unit {0}} (Err err) (λ fault. ⊥)
     → (let result : Result (Unit {0}) TangleErr = Err err in
@@ -300,7 +301,7 @@ pool_refused job on web name pool err last u a b console ports named same some f
     (pool_stopped name pool rest err last a b console ports on some faultless stopped))
 
 pub pool_done : (job : Job) (on : Going_on) (web : Scanned) (name : List ℕ) (pool : List (List ℕ))
-    (u : World) (a b : Option Files) (console : Option (List ℕ)) (ports : Option (List (List ℕ)))
+    (u : World) (a b : Option Files) (console : Option (List ℕ)) (ports : List (Option PortState))
     → name ≡ pool_name job.base → pool ≡ web.strings
     → (pool ≡ [] → WhereTold SameFiles a b) → (pool ≢ [] → WhereTold (LeavesFile name (pool_text pool)) a b)
     → Reaches (tangling job on) (after_pascal job on web) u (world_of a console ports)

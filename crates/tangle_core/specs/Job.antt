@@ -4,6 +4,7 @@ use Rattle.std.specs.Prelude.{◌≡◌, ℕ, List, [], ◌∷◌, ◌++◌, len
 use Rattle.std.specs.Prelude.{Result, Ok, Err}
 use Rattle.wb_base.specs.declared.faults.Fault.{Fault as Flaw}
 use Rattle.wb_ports.specs.Files.{Files}
+use Rattle.wb_ports.specs.PortState.{PortState}
 use Rattle.wb_ports.specs.declared.shelf.FailedCall.{FailedCall}
 use Rattle.tangle_out.specs.Packing.{text_of_lines}
 use Rattle.tangle_core.specs.declared.job.Job.{Job}
@@ -72,7 +73,7 @@ Tangles job on (Err Failed) last before now = Stops (tangling job on) (by_shelf 
 Tangles job on (Err OutOfMemory) last before now = Stops (tangling job on) by_memory before now
 
 -- the world of a shelf, a console and ports
-abbrev pub world_of : Option Files → Option (List ℕ) → Option (List (List ℕ)) → World
+abbrev pub world_of : Option Files → Option (List ℕ) → List (Option PortState) → World
 world_of files console ports = record { files = files; console = console; ports = ports }
 
 -- whether a call of the shelf failed

@@ -4,6 +4,7 @@ ghost use Rattle.std.specs.Prelude.{Ok, Err, IfOk, IfSome, OnOk, IsErrOf, codes}
 ghost use Rattle.wb_base.specs.WorkResult.{IfFault};
 ghost use Rattle.wb_ports.specs.Counts.{CountsFailure};
 ghost use Rattle.wb_ports.specs.Held.{WhereTold};
+ghost use Rattle.wb_ports.specs.PortState.{PortState};
 ghost use Rattle.wb_ports.specs.Files.{Loads, SameFiles};
 ghost use Rattle.web_scan.specs.Scan.{scan_of};
 ghost use Rattle.tangle_core.specs.Outcome.{outcome, lines_with_changes};
@@ -44,7 +45,7 @@ pub fn tangle<S: Shelf>(
     requires { S.is_open shelf.old ≡ false }
 
     // For every way to go on: the job's work is done, and what comes next is left to do; or it was stopped on the way.
-    ensures work { (on : Going_on) (console : Option (List ℕ)) (ports : Option (List (List ℕ))) →
+    ensures work { (on : Going_on) (console : Option (List ℕ)) (ports : List (Option PortState)) →
         Tangles job.now on result (S.last_failure shelf.new)
         (world_of (S.files shelf.old) console ports) (world_of (S.files shelf.new) console ports) }
     ensures closed { IsErrOf result TangleErr.Failed ⊎ (S.is_open shelf.new ≡ false) }
@@ -76,7 +77,7 @@ fn write_files<S: Shelf>(
     requires copy { IsReady copy.old }
 
     ensures work { (job : Job) (on : Going_on) (before : World) (console : Option (List ℕ))
-        (ports : Option (List (List ℕ))) → pascal.now ≡ pascal_name job.base → pool.now ≡ pool_name job.base
+        (ports : List (Option PortState)) → pascal.now ≡ pascal_name job.base → pool.now ≡ pool_name job.base
         → Reaches (tangling job on) (leaves_outcome job.base on (outcome (Ok web.now))) before
         (world_of (S.files shelf.old) console ports)
         → Tangles job on result (S.last_failure shelf.new) before (world_of (S.files shelf.new) console ports) }
@@ -110,7 +111,7 @@ fn name_of(alloc: Global, base: &Text, end: &[u8]) -> Result<Text, OutOfMemory>
 
 // The scan of the job's web, with its change file.
 fn scanned<S: Shelf>(alloc: Global, job: &Job, shelf: &mut S) -> Result<Web, TangleErr>
-    ensures work { (on : Going_on) (console : Option (List ℕ)) (ports : Option (List (List ℕ))) →
+    ensures work { (on : Going_on) (console : Option (List ℕ)) (ports : List (Option PortState)) →
         Goes (tangling job.now on) on (λ web. leaves_outcome job.now.base on (outcome (Ok web))) result
         (S.last_failure shelf.new)
         (world_of (S.files shelf.old) console ports) (world_of (S.files shelf.new) console ports) }
@@ -123,7 +124,7 @@ fn scanned<S: Shelf>(alloc: Global, job: &Job, shelf: &mut S) -> Result<Web, Tan
 
 // The lines of the job's web, with its change file.
 fn merged<S: Shelf>(alloc: Global, job: &Job, shelf: &mut S) -> Result<Lines, TangleErr>
-    ensures work { (on : Going_on) (console : Option (List ℕ)) (ports : Option (List (List ℕ))) →
+    ensures work { (on : Going_on) (console : Option (List ℕ)) (ports : List (Option PortState)) →
         Goes (tangling job.now on) on
         (λ lines. leaves_outcome job.now.base on (outcome (scan_of job.now.options lines))) result
         (S.last_failure shelf.new)

@@ -1,6 +1,7 @@
 -- What the parts of the job have done of the work, and what is left of it. No public contract cites this.
 use Rattle.std.specs.Prelude.{ℕ, List, Option, Result, Ok, Err}
 use Rattle.wb_ports.specs.Files.{Files}
+use Rattle.wb_ports.specs.PortState.{PortState}
 use Rattle.wb_ports.specs.declared.shelf.FailedCall.{FailedCall}
 use Rattle.web_scan.specs.Scanned.{Scanned}
 use Rattle.tangle_core.specs.declared.job.TangleErr.{TangleErr}
@@ -20,12 +21,12 @@ Goes work on rest (Err OutOfMemory) last before now = Stops work by_memory befor
 -- the load of a file
 abbrev pub Loading : List ℕ → Result (List ℕ) TangleErr → Option FailedCall → Option Files → Option Files → Type 0
 Loading name result last before now =
-    (on : Going_on) (next : List ℕ → Work) (console : Option (List ℕ)) (ports : Option (List (List ℕ)))
+    (on : Going_on) (next : List ℕ → Work) (console : Option (List ℕ)) (ports : List (Option PortState))
     → Goes (loads name next) on next result last (world_of before console ports) (world_of now console ports)
 
 -- the load of a change file, if there is one
 abbrev pub LoadingChange : Option (List ℕ) → Result (List ℕ) TangleErr → Option FailedCall → Option Files
     → Option Files → Type 0
 LoadingChange change result last before now =
-    (on : Going_on) (next : List ℕ → Work) (console : Option (List ℕ)) (ports : Option (List (List ℕ)))
+    (on : Going_on) (next : List ℕ → Work) (console : Option (List ℕ)) (ports : List (Option PortState))
     → Goes (loads_change change next) on next result last (world_of before console ports) (world_of now console ports)
