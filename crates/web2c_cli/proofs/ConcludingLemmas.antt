@@ -1,20 +1,25 @@
 -- How a run concludes: by the end of its work, by the line of a fault, or by what stopped it.
-use Rattle.std.proofs.Common.{◌≡◌, ◌≢◌, ◌⊎◌, ◌≤◌, ℕ, List, Option, Result, Ok, Err, IfOk, IsErrAnd, refl, sym, subst}
+use Rattle.std.proofs.Common.{◌≡◌, ◌≢◌, ◌∙◌, ◌⊎◌, ℕ, List, Option, Result, Ok, Err, IfOk, IsErrAnd, sym, subst}
 use Rattle.std.proofs.Common.{inl, inr, arith}
 use Rattle.wb_ports.specs.Counts.{CountsFailure, Rose}
 use Rattle.wb_base.specs.declared.faults.Fault.{Fault as Flaw}
 use Rattle.wb_ports.specs.declared.shelf.FailedCall.{FailedCall}
 use Rattle.web2c_cli.specs.declared.status.Status.{Status}
+use Rattle.web2c_cli.specs.declared.status.Status.TheVariants as st
 use Rattle.web2c_cli.specs.declared.halt.Stop.{Stop}
-use Rattle.web2c_cli.specs.declared.halt.Stop.TheVariants.{Shelf, Console, OutOfMemory}
+use Rattle.web2c_cli.specs.declared.halt.Stop.TheVariants.{Shelf, Console, Port, OutOfMemory}
 use Rattle.web2c_cli.specs.declared.halt.Halt.{Halt}
 use Rattle.web2c_cli.specs.declared.halt.Halt.TheVariants.{Fault, Stopped}
 use Rattle.web2c_cli.specs.Status.{number_of}
-use Rattle.web2c_cli.specs.CommandLine.{Order, Request}
-use Rattle.tangle_core.specs.Work.{Work, does, prints, ends, World, by_shelf, by_console, by_memory, Ends, Stops}
-use Rattle.web2c_cli.specs.Program.{work_of}
+use Rattle.web2c_cli.specs.CommandLine.{Request}
+use Rattle.tangle_core.specs.Work.{Work, does, prints, ends, World, Cause, by_shelf, by_console, by_port, by_memory}
+use Rattle.tangle_core.specs.Work.{Ends, Stops}
+use Rattle.pas_run.specs.WholeRuns.{SomeRose}
+use Rattle.web2c_cli.specs.Runs.{NoPortFailed}
+use Rattle.web2c_cli.specs.Program.{work_of, EndsAs, StopsBy}
 use Rattle.tangle_core.specs.Job.{Reaches}
-use Rattle.web2c_cli.specs.inner.Reaching.{Goes, Concludes, cause_of, status_of, is_by_shelf, is_by_console}
+use Rattle.web2c_cli.specs.inner.Reaching.{Goes, Concludes, cause_of, status_of, is_by_shelf, is_by_console, is_by_port}
+use Rattle.web2c_cli.specs.inner.Running.{ConcludesAs, CountsPorts, IsOwn}
 use Rattle.tangle_core.proofs.ReachingLemmas.{ended}
 
 -- a stop that is handed on
@@ -55,35 +60,77 @@ halt_kept {T = T} {U = U} refusal work before rest (Err other) halt last u v is 
 
 -- what the status of a run says of its conclusion
 pub finishes : (request asked : Request) (outcome : Result Status Stop) (last : Option FailedCall) (u v : World)
-    (number : ℕ) → asked ≡ request → number ≡ number_of (status_of outcome)
-    → Concludes (work_of asked) outcome last u v
-    → number ≢ 3 → number ≢ 4 → Ends (work_of request) number u v
-finishes request asked (Ok status) last u v number is same e not_failed not_unfound =
-    subst (λ (r : Request). Ends (work_of r) number u v) is
-    (subst (λ (n : ℕ). Ends (work_of asked) n u v) (sym same) e)
+    (number : ℕ) → asked ≡ request → number ≡ number_of (status_of outcome) → ConcludesAs asked outcome last u v
+    → number ≢ 3 → number ≢ 4 → EndsAs request number u v
+finishes request asked (Ok status) last u v number is same (readings, right, e) not_failed not_unfound = (
+  readings,
+  right,
+  subst (λ (r : Request). Ends (work_of readings r) number u v) is
+      (subst (λ (n : ℕ). Ends (work_of readings asked) n u v) (sym same) e),
+)
 finishes request asked (Err Shelf) last u v number is same e not_failed not_unfound = absurd (not_failed same)
 finishes request asked (Err Console) last u v number is same e not_failed not_unfound = absurd (not_failed same)
+finishes request asked (Err Port) last u v number is same e not_failed not_unfound = absurd (not_failed same)
 finishes request asked (Err OutOfMemory) last u v number is same e not_failed not_unfound = absurd (not_unfound same)
 
+-- the numbers of the statuses with which work ends by itself
+own_number : (status : Status) → IsOwn status → (number_of status ≢ 3) × (number_of status ≢ 4)
+own_number st.Done own = ((λ is. cc), (λ is. cc))
+own_number st.Refused own = ((λ is. cc), (λ is. cc))
+own_number st.Usage own = ((λ is. cc), (λ is. cc))
+own_number st.Failed own = absurd own
+own_number st.OutOfMemory own = absurd own
+own_number st.Unfinished own = ((λ is. cc), (λ is. cc))
+own_number st.Erroneous own = ((λ is. cc), (λ is. cc))
+own_number st.TooDeep own = ((λ is. cc), (λ is. cc))
+
+stopped_as : (request asked : Request) (cause : Cause) (u v : World) → asked ≡ request → StopsBy asked cause u v
+    → StopsBy request cause u v
+stopped_as request asked cause u v is s = subst (λ (r : Request). StopsBy r cause u v) is s
+
 pub wants_memory : (request asked : Request) (outcome : Result Status Stop) (last : Option FailedCall) (u v : World)
-    (number : ℕ) → asked ≡ request → number ≡ number_of (status_of outcome) → IfOk outcome (λ s. number_of s ≤ 2)
-    → Concludes (work_of asked) outcome last u v → number ≡ 4 → Stops (work_of request) by_memory u v
-wants_memory request asked (Ok status) last u v number is same small e unfound = absurd (omega arith)
-wants_memory request asked (Err Shelf) last u v number is same small e unfound = absurd (omega arith)
-wants_memory request asked (Err Console) last u v number is same small e unfound = absurd (omega arith)
-wants_memory request asked (Err OutOfMemory) last u v number is same small e unfound =
-    subst (λ (r : Request). Stops (work_of r) by_memory u v) is e
+    (number : ℕ) → asked ≡ request → number ≡ number_of (status_of outcome) → IfOk outcome IsOwn
+    → ConcludesAs asked outcome last u v → number ≡ 4 → StopsBy request by_memory u v
+wants_memory request asked (Ok status) last u v number is same own e unfound =
+    absurd ((own_number status own).1 (sym same ∙ unfound))
+wants_memory request asked (Err Shelf) last u v number is same own e unfound = absurd (omega arith)
+wants_memory request asked (Err Console) last u v number is same own e unfound = absurd (omega arith)
+wants_memory request asked (Err Port) last u v number is same own e unfound = absurd (omega arith)
+wants_memory request asked (Err OutOfMemory) last u v number is same own e unfound =
+    stopped_as request asked by_memory u v is e
 
 pub fails : (request asked : Request) (outcome : Result Status Stop) (last : Option FailedCall) (u v : World)
-    (number shelf_before shelf_now con_before con_now : ℕ) → asked ≡ request → number ≡ number_of (status_of outcome)
-    → IfOk outcome (λ s. number_of s ≤ 2) → CountsFailure (is_by_shelf outcome) shelf_before shelf_now
-    → CountsFailure (is_by_console outcome) con_before con_now → Concludes (work_of asked) outcome last u v
-    → number ≡ 3
-    → (Rose shelf_before shelf_now × (con_now ≡ con_before) × Stops (work_of request) (by_shelf last) u v)
-    ⊎ (Rose con_before con_now × (shelf_now ≡ shelf_before) × Stops (work_of request) by_console u v)
-fails request asked (Ok status) last u v number a b x y is same small shelf con e failed = absurd (omega arith)
-fails request asked (Err Shelf) last u v number a b x y is same small shelf con e failed =
-    inl (shelf, con, subst (λ (r : Request). Stops (work_of r) (by_shelf last) u v) is e)
-fails request asked (Err Console) last u v number a b x y is same small shelf con e failed =
-    inr (con, shelf, subst (λ (r : Request). Stops (work_of r) by_console u v) is e)
-fails request asked (Err OutOfMemory) last u v number a b x y is same small shelf con e failed = absurd (omega arith)
+    (number shelf_before shelf_now con_before con_now : ℕ) (ports_before ports_now : List ℕ) → asked ≡ request
+    → number ≡ number_of (status_of outcome) → IfOk outcome IsOwn
+    → CountsFailure (is_by_shelf outcome) shelf_before shelf_now
+    → CountsFailure (is_by_console outcome) con_before con_now
+    → CountsPorts (is_by_port outcome) ports_before ports_now → ConcludesAs asked outcome last u v → number ≡ 3
+    → (Rose shelf_before shelf_now × (con_now ≡ con_before) × NoPortFailed ports_before ports_now
+    × StopsBy request (by_shelf last) u v)
+    ⊎ (Rose con_before con_now × (shelf_now ≡ shelf_before) × NoPortFailed ports_before ports_now
+    × StopsBy request by_console u v)
+    ⊎ (SomeRose ports_before ports_now × (shelf_now ≡ shelf_before) × (con_now ≡ con_before)
+    × StopsBy request by_port u v)
+fails request asked (Ok status) last u v number a b x y p q is same own shelf con ports e failed =
+    absurd ((own_number status own).0 (sym same ∙ failed))
+fails request asked (Err Shelf) last u v number a b x y p q is same own shelf con ports e failed =
+    inl (shelf, con, ports, stopped_as request asked (by_shelf last) u v is e)
+fails request asked (Err Console) last u v number a b x y p q is same own shelf con ports e failed =
+    inr (inl (con, shelf, ports, stopped_as request asked by_console u v is e))
+fails request asked (Err Port) last u v number a b x y p q is same own shelf con ports e failed =
+    inr (inr (ports, shelf, con, stopped_as request asked by_port u v is e))
+fails request asked (Err OutOfMemory) last u v number a b x y p q is same own shelf con ports e failed =
+    absurd (omega arith)
+
+-- a status other than 3 comes from no failed call
+pub no_failure : (outcome : Result Status Stop) (number shelf_before shelf_now con_before con_now : ℕ)
+    (ports_before ports_now : List ℕ) → number ≡ number_of (status_of outcome)
+    → CountsFailure (is_by_shelf outcome) shelf_before shelf_now
+    → CountsFailure (is_by_console outcome) con_before con_now
+    → CountsPorts (is_by_port outcome) ports_before ports_now → number ≢ 3
+    → (shelf_now ≡ shelf_before) × (con_now ≡ con_before) × NoPortFailed ports_before ports_now
+no_failure (Ok status) number a b x y p q same shelf con ports not_failed = (shelf, con, ports)
+no_failure (Err Shelf) number a b x y p q same shelf con ports not_failed = absurd (not_failed same)
+no_failure (Err Console) number a b x y p q same shelf con ports not_failed = absurd (not_failed same)
+no_failure (Err Port) number a b x y p q same shelf con ports not_failed = absurd (not_failed same)
+no_failure (Err OutOfMemory) number a b x y p q same shelf con ports not_failed = (shelf, con, ports)

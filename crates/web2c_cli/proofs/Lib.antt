@@ -2,7 +2,11 @@ mod ReachingLemmas
 mod TanglingLemmas
 mod ListingLemmas
 mod ConcludingLemmas
+mod PlayLemmas
+mod RunningLemmas
+mod CommandLemmas
 mod NumberLemmas
 mod PartsLemmas
 mod RequestLemmas
+mod NamesLemmas
 mod ProgramLaws

@@ -4,6 +4,7 @@ use Rattle.wb_base.specs.declared.faults.Fault.{Fault as Flaw}
 use Rattle.wb_ports.specs.declared.shelf.FailedCall.{FailedCall}
 use Rattle.wb_ports.specs.Held.{Gains}
 use Rattle.wb_ports.specs.Files.{Files}
+use Rattle.wb_ports.specs.PortState.{PortState}
 use Rattle.web_pool.specs.declared.refusals.PoolTypeErr.{PoolTypeErr}
 use Rattle.web_pool.specs.declared.refusals.PoolTypeErr.TheVariants.{Fault, Failed}
 use Rattle.web_pool.specs.Listing.{Listing, listing, Lists}
@@ -34,7 +35,7 @@ goes_then refusal work middle rest (Err (Stopped stop)) last u v w p g = p.stops
 
 -- the whole listing was printed
 listed : (order : Order) (wanted : Listing) (fault : Option Flaw) (a b : Option (List ℕ)) (last : Option FailedCall)
-    (files : Option Files) (ports : Option (List (List ℕ))) → wanted.fault ≡ fault → Gains wanted.text a b
+    (files : Option Files) (ports : List (Option PortState)) → wanted.fault ≡ fault → Gains wanted.text a b
     → Reaches (printing_listing order wanted) (refused_by order fault) (world_of files a ports) (world_of files b ports)
 listed order wanted fault a b last files ports is gained =
     rest_is _ _ _ _ _ (ap (refused_by order) is)

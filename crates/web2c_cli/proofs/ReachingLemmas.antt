@@ -1,9 +1,10 @@
 -- Calls of the shelf and the console, and what each has to do with the work that is to be done.
-use Rattle.std.proofs.Common.{◌≡◌, ◌≢◌, ◌∙◌, ℕ, List, [], ◌++◌, true, Option, Some, None, Result, Ok, Err}
+use Rattle.std.proofs.Common.{◌≡◌, ◌≢◌, ◌∙◌, ℕ, List, [], ◌++◌, Option, Some, None, Result, Ok, Err}
 use Rattle.std.proofs.Common.{IfSome, IsErrAnd, take, option_map, sym, subst, append-nil}
 use Rattle.wb_ports.specs.Counts.{is_failed}
 use Rattle.wb_ports.specs.Held.{WhereTold, Gains, GainsPrefix}
 use Rattle.wb_ports.specs.Files.{Files, SameFiles, Loads, KeepsLastFailure}
+use Rattle.wb_ports.specs.PortState.{PortState}
 use Rattle.wb_ports.specs.declared.answers.PortErr.{PortErr}
 use Rattle.wb_ports.specs.declared.answers.PortErr.TheVariants.{Failed, OutOfMemory}
 use Rattle.wb_ports.specs.declared.shelf.FailedCall.{FailedCall}
@@ -45,7 +46,7 @@ loading_done name text last a b is same next console ports =
 
 -- what stops a load that answered this
 load_stops : (T : Type 0) (name : List ℕ) (err : PortErr) (old last : Option FailedCall) (a b : Option Files)
-    (console : Option (List ℕ)) (ports : Option (List (List ℕ))) → WhereTold SameFiles a b
+    (console : Option (List ℕ)) (ports : List (Option PortState)) → WhereTold SameFiles a b
     → KeepsLastFailure a Load name (is_failed {T = T} (Err err)) old last
     → StopsLoad name (cause_of (stop_by_port err) last) (world_of a console ports) (world_of b console ports)
 load_stops T name Failed old last a b console ports same l =

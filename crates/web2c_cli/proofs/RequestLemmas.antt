@@ -1,17 +1,20 @@
 -- What a command line asks for, from what is read of it.
-use Rattle.std.proofs.Common.{◌≡◌, ◌∙◌, ℕ, List, length, drop, true, false, nat_le}
+use Rattle.std.proofs.Common.{◌≡◌, ◌∙◌, ℕ, zero, suc, List, [], ◌∷◌, length, drop, true, false, ◌&&◌, nat_le, refl}
 use Rattle.std.proofs.Common.{Option, Some, None, filter_map, slice_get, sym, ap}
 use Rattle.std.proofs.lemmas.List.{nil_from_length}
 use Rattle.std.proofs.lemmas.List.Folds.{list_all-map}
 use Rattle.std.specs.List.{find, list_all}
-use Rattle.std.specs.Option.{option_map_or}
+use Rattle.std.specs.Option.{option_map_or, option_or}
 use Rattle.std.specs.Str.{bytes_eq}
 use Rattle.web2c_cli.specs.declared.command_table.OptionRow.{OptionRow}
 use Rattle.web2c_cli.specs.declared.command_table.Setting.{Setting}
+use Rattle.web2c_cli.specs.declared.command_table.NameKind.{NameKind}
+use Rattle.web2c_cli.specs.FileNames.{is_name_of}
 use Rattle.web2c_cli.specs.inner.Table.{option_by, options_by}
 use Rattle.web2c_cli.specs.CommandLine.{times_set, CommandForm, command_table, Part, parts_of}
 use Rattle.web2c_cli.specs.CommandLine.{setting_in, are_set_at_most_once, Names, Request, ordered, usage}
-use Rattle.web2c_cli.specs.CommandLine.{names_for, request_by, request_of}
+use Rattle.web2c_cli.specs.CommandLine.{names_for, are_names_of, command_of, request_by, request_of}
+use Rattle.web2c_cli.specs.CommandLine.{name_in, names_said}
 use Rattle.web2c_cli.proofs.PartsLemmas.{cond_true, cond_false, drop_at}
 
 -- whether no which is made twice, over the rows in code
@@ -58,3 +61,25 @@ unfolding request_of
 request_unknown words word is found =
     ap (λ (o : Option CommandForm). option_map_or (from_form (drop 1 words)) o usage) found
     ∙ sym (ap request_of (drop_at words 0 word is))
+
+-- whether names can name what stands from a place on, by the first of them
+pub names_at : (kinds : List NameKind) (more : Option NameKind) (i : ℕ) (word : List ℕ) (words : List (List ℕ))
+    → are_names_of (drop i kinds) more (word ∷ words)
+    ≡ (option_map_or (λ kind. is_name_of kind word) (option_or (slice_get kinds i) more) false
+    && are_names_of (drop (suc i) kinds) more words)
+names_at [] None zero word words = refl
+names_at [] None (suc i) word words = refl
+names_at [] (Some kind) zero word words = refl
+names_at [] (Some kind) (suc i) word words = refl
+names_at (kind ∷ kinds) more zero word words = refl
+names_at (kind ∷ kinds) more (suc i) word words = names_at kinds more i word words
+
+-- the names that are said
+abbrev said_of_form : List (List ℕ) → CommandForm → List (List ℕ)
+said_of_form rest form = filter_map name_in (parts_of form.options rest)
+
+pub said_found : (words : List (List ℕ)) (word : List ℕ) (form : CommandForm) → slice_get words 0 ≡ Some word
+    → Some form ≡ command_of word → filter_map name_in (parts_of form.options (drop 1 words)) ≡ names_said words
+said_found words word form is found =
+    ap (λ (o : Option CommandForm). option_map_or (said_of_form (drop 1 words)) o []) found
+    ∙ sym (ap names_said (drop_at words 0 word is))

@@ -1,24 +1,19 @@
 -- What tangling leaves to be done.
-use Rattle.std.proofs.Common.{◌≡◌, ℕ, Bool, true, false, Option, Result, Ok, Err, IsErrAnd, subst, refl, sym, ap}
+use Rattle.std.proofs.Common.{◌≡◌, Bool, Option, Result, Ok, Err, IsErrAnd, subst, sym, ap}
 use Rattle.wb_ports.specs.declared.shelf.FailedCall.{FailedCall}
 use Rattle.tangle_core.specs.declared.job.Done.{Done}
 use Rattle.tangle_core.specs.declared.job.Job.{Job}
 use Rattle.tangle_core.specs.declared.job.TangleErr.{TangleErr}
 use Rattle.tangle_core.specs.declared.job.TangleErr.TheVariants.{Fault, Failed, OutOfMemory}
-use Rattle.tangle_core.specs.Outcome.{Output}
-use Rattle.tangle_core.specs.Work.{Work, World, ends, loads, by_memory, Stops}
-use Rattle.tangle_core.specs.Job.{Tangles, Reaches, Tells, tangling}
-use Rattle.tangle_core.proofs.WorkLemmas.{now_same}
-use Rattle.tangle_core.proofs.ReachingLemmas.{load_stopped, rest_is}
+use Rattle.tangle_core.specs.Work.{World, ends}
+use Rattle.tangle_core.specs.Job.{Tangles, Reaches, tangling}
+use Rattle.tangle_core.proofs.ReachingLemmas.{rest_is}
 use Rattle.web2c_cli.specs.declared.halt.Halt.{Halt}
-use Rattle.web2c_cli.specs.declared.halt.Stop.TheVariants.{OutOfMemory as no_memory}
 use Rattle.web2c_cli.specs.declared.status.Status.TheVariants.{Done as Finished}
 use Rattle.web2c_cli.specs.Status.{number_of}
 use Rattle.web2c_cli.specs.CommandLine.{Order}
-use Rattle.web2c_cli.specs.declared.command_table.Command.{Command}
-use Rattle.web2c_cli.specs.declared.command_table.Command.TheVariants.{Tangle, Pooltype}
-use Rattle.web2c_cli.specs.Program.{command_work, tangle_work, job_of, going_on, telling_no_output}
-use Rattle.web2c_cli.specs.inner.Reaching.{Goes, Tangling, halt_by_tangling}
+use Rattle.web2c_cli.specs.Program.{tangle_work, job_of, going_on, telling_no_output}
+use Rattle.web2c_cli.specs.inner.Reaching.{Tangling, halt_by_tangling}
 
 -- a web that was not tangled
 pub not_tangled : (order : Order) (job : Job) (err : TangleErr) (result : Result (Unit {0}) Halt)
@@ -49,8 +44,3 @@ was_tangled order job made last u v is (output, (tells, reaches)) =
     (telling_no_output made.no_output (ends (number_of Finished))) u v) is
     (rest_is _ _ _ _ _ (ap (λ (b : Bool). telling_no_output b (ends (number_of Finished))) (sym tells.no_output))
     reaches)
-
--- the work of `tangle`
-pub tangle_is : (command : Command) (order : Order) → command ≡ Tangle → command_work command order ≡ tangle_work order
-tangle_is Tangle order is = refl
-tangle_is Pooltype order is = absurd (cc)

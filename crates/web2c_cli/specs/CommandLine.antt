@@ -10,13 +10,14 @@ use Rattle.std.specs.Str.{bytes_eq}
 use Rattle.wb_base.specs.declared.options.Case.TheVariants.{Upper, Lower, Mixed}
 use Rattle.wb_base.specs.declared.options.Options.{Options}
 use Rattle.web2c_cli.specs.declared.command_table.Command.{Command}
-use Rattle.web2c_cli.specs.declared.command_table.Command.TheVariants.{Tangle, Pooltype}
+use Rattle.web2c_cli.specs.declared.command_table.Command.TheVariants.{Tangle, Pooltype, Prun}
 use Rattle.web2c_cli.specs.declared.command_table.NameKind.{NameKind}
-use Rattle.web2c_cli.specs.declared.command_table.NameKind.TheVariants.{Web, File}
+use Rattle.web2c_cli.specs.declared.command_table.NameKind.TheVariants.{Web, Pascal, File}
 use Rattle.web2c_cli.specs.declared.command_table.Comparison.TheVariants.{Loose, Strict}
 use Rattle.web2c_cli.specs.declared.command_table.Setting.{Setting}
-use Rattle.web2c_cli.specs.declared.command_table.Setting.TheVariants.{Length, Underline, Letters, Words}
+use Rattle.web2c_cli.specs.declared.command_table.Setting.TheVariants.{Length, Underline, Letters, Words, Steps}
 use Rattle.web2c_cli.specs.declared.command_table.TheConstants.{LEAST_LENGTH, GREATEST_LENGTH}
+use Rattle.web2c_cli.specs.declared.command_table.TheConstants.{LEAST_STEPS, GREATEST_STEPS}
 use Rattle.web2c_cli.specs.declared.command_table.Value.{Value}
 use Rattle.web2c_cli.specs.declared.command_table.Value.TheVariants as value
 use Rattle.web2c_cli.specs.FileNames.{is_name_of}
@@ -27,12 +28,14 @@ pub record OptionForm : Type 0 where
   pub spelling : List ℕ
   pub value : Value
 
--- a command: its word, how many names it needs, what each name that it may have names, and its options
+-- a command: its word, how many names it needs, what each name that it may have names, what each name behind those
+-- names where any number of them may come, and its options
 pub record CommandForm : Type 0 where
   pub word : List ℕ
   pub command : Command
   pub needed : ℕ
   pub names : List NameKind
+  pub more : Option NameKind
   pub options : List OptionForm
 
 -- the options of tangling, which are those of Web2C's `tangle`
@@ -47,11 +50,37 @@ tangle_options =
     ∷ record { spelling = codes "--strict"; value = value.Fixed (Words Strict) }
     ∷ []
 
--- the commands that are built: `tangle WEB [CH]` and `pooltype POOL`
+-- the option of the run of a program
+abbrev pub run_options : List OptionForm
+run_options = record { spelling = codes "--steps"; value = value.Steps } ∷ []
+
+-- the commands that are built: `tangle WEB [CH]`, `pooltype POOL` and `prun PAS FILE...`
 abbrev pub command_table : List CommandForm
 command_table =
-    record { word = codes "tangle"; command = Tangle; needed = 1; names = Web ∷ File ∷ []; options = tangle_options }
-    ∷ record { word = codes "pooltype"; command = Pooltype; needed = 1; names = File ∷ []; options = [] }
+    record {
+      word = codes "tangle";
+      command = Tangle;
+      needed = 1;
+      names = Web ∷ File ∷ [];
+      more = None;
+      options = tangle_options;
+    }
+    ∷ record {
+      word = codes "pooltype";
+      command = Pooltype;
+      needed = 1;
+      names = File ∷ [];
+      more = None;
+      options = [];
+    }
+    ∷ record {
+      word = codes "prun";
+      command = Prun;
+      needed = 1;
+      names = Pascal ∷ [];
+      more = Some File;
+      options = run_options;
+    }
     ∷ []
 
 -- what a word says, or an option and the word after it: a name, a setting, or nothing that the command knows
@@ -93,6 +122,7 @@ option_of options word = find (λ option. bytes_eq option.spelling (spelling_in 
 abbrev pub takes_value : Value → Bool
 takes_value (value.Fixed given) = false
 takes_value value.Length = true
+takes_value value.Steps = true
 
 -- the number that is written so, in decimal digits
 abbrev pub number_written : List ℕ → ℕ
@@ -111,6 +141,9 @@ setting_by (value.Fixed given) (Some text) = unknown
 setting_by value.Length None = unknown
 setting_by value.Length (Some text) =
     if is_number_within LEAST_LENGTH GREATEST_LENGTH text then setting (Length (number_written text)) else unknown
+setting_by value.Steps None = unknown
+setting_by value.Steps (Some text) =
+    if is_number_within LEAST_STEPS GREATEST_STEPS text then setting (Steps (number_written text)) else unknown
 
 -- what the word of an option says with this value, or without one
 abbrev pub option_part : List OptionForm → List ℕ → Option (List ℕ) → Part
@@ -154,11 +187,12 @@ setting_in (name word) = None
 setting_in (setting given) = Some given
 setting_in unknown = None
 
--- whether each name can name what stands at its place, and there are no more names than that
-abbrev pub are_names_of : List NameKind → List (List ℕ) → Bool
-are_names_of kinds [] = true
-are_names_of [] (word ∷ words) = false
-are_names_of (kind ∷ kinds) (word ∷ words) = is_name_of kind word && are_names_of kinds words
+-- whether each name can name what stands at its place, and more names come only where they may
+abbrev pub are_names_of : List NameKind → Option NameKind → List (List ℕ) → Bool
+are_names_of kinds more [] = true
+are_names_of [] None (word ∷ words) = false
+are_names_of [] (Some kind) (word ∷ words) = is_name_of kind word && are_names_of [] (Some kind) words
+are_names_of (kind ∷ kinds) more (word ∷ words) = is_name_of kind word && are_names_of kinds more words
 
 -- whether two settings set the same
 abbrev pub set_the_same : Setting → Setting → Bool
@@ -166,6 +200,7 @@ set_the_same (Length most) (Length other) = true
 set_the_same Underline Underline = true
 set_the_same (Letters folded) (Letters other) = true
 set_the_same (Words compared) (Words other) = true
+set_the_same (Steps most) (Steps other) = true
 set_the_same first second = false
 
 -- whether an option with this value sets what the setting does
@@ -173,6 +208,8 @@ abbrev pub sets : Value → Setting → Bool
 sets (value.Fixed given) wanted = set_the_same given wanted
 sets value.Length (Length most) = true
 sets value.Length other = false
+sets value.Steps (Steps most) = true
+sets value.Steps other = false
 
 -- how often that is set which an option with this value sets
 abbrev pub times_set : Value → List Setting → ℕ
@@ -196,17 +233,31 @@ names_of (first ∷ others) = Some (record { first = first; second = slice_get o
 abbrev pub default_options : Options
 default_options = record { length = 32; underline = false; case = Mixed; strict = false }
 
--- the options after a setting
+-- the options after a setting; one of the steps leaves them as they are
 abbrev pub with_setting : Options → Setting → Options
 with_setting options (Length most) = record options { length = most }
 with_setting options Underline = record options { underline = true }
 with_setting options (Letters folded) = record options { case = folded }
 with_setting options (Words Loose) = record options { strict = false }
 with_setting options (Words Strict) = record options { strict = true }
+with_setting options (Steps most) = options
 
 -- the options that the settings choose
 abbrev pub options_by_settings : List Setting → Options
 options_by_settings settings = fold with_setting default_options settings
+
+-- how many steps a run may take where nothing is set
+abbrev pub default_steps : ℕ
+default_steps = 1000000000
+
+-- how many steps a run may take after a setting
+abbrev pub with_steps : ℕ → Setting → ℕ
+with_steps steps (Steps most) = most
+with_steps steps other = steps
+
+-- how many steps a run may take by the settings
+abbrev pub steps_by_settings : List Setting → ℕ
+steps_by_settings settings = fold with_steps default_steps settings
 
 -- what a command is asked to do: with which names, and with which settings in the order in which they are given
 pub record Order : Type 0 where
@@ -223,7 +274,7 @@ pub data Request : Type 0 where
 abbrev pub names_for : CommandForm → List Part → Option Names
 names_for form parts =
     let words = filter_map name_in parts in
-    if list_all is_known parts && are_names_of form.names words && nat_le form.needed (length words)
+    if list_all is_known parts && are_names_of form.names form.more words && nat_le form.needed (length words)
     then names_of words else None
 
 -- what a command line of this command asks for, that says this after the command
@@ -235,12 +286,36 @@ request_by form parts =
     (names_for form parts) usage
     else usage
 
+-- the command of this word
+abbrev pub command_of : List ℕ → Option CommandForm
+command_of word = find (λ form. bytes_eq form.word word) command_table
+
 -- what the words ask for
 unfoldable pub request_of : List (List ℕ) → Request
 request_of [] = usage
 request_of (word ∷ words) =
-    option_map_or (λ form. request_by form (parts_of form.options words))
-    (find (λ form. bytes_eq form.word word) command_table) usage
+    option_map_or (λ form. request_by form (parts_of form.options words)) (command_of word) usage
+
+-- whether the names behind a command's first are those of the files of a run
+abbrev pub names_files : Command → Bool
+names_files Tangle = false
+names_files Pooltype = false
+names_files Prun = true
+
+-- whether the request is for the run of a program
+abbrev pub asks_for_run : Request → Bool
+asks_for_run (ordered order) = names_files order.command
+asks_for_run usage = false
+
+-- the names that are said in the words
+abbrev pub names_said : List (List ℕ) → List (List ℕ)
+names_said [] = []
+names_said (word ∷ words) =
+    option_map_or (λ form. filter_map name_in (parts_of form.options words)) (command_of word) []
+
+-- the words that name the files of a run: all names but the first, where the words ask for a run
+abbrev pub file_words : List (List ℕ) → List (List ℕ)
+file_words words = if asks_for_run (request_of words) then drop 1 (names_said words) else []
 
 -- the line that tells how to call the program, with its byte 10
 abbrev pub usage_line : List ℕ

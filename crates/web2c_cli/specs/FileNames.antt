@@ -4,7 +4,7 @@ use Rattle.std.specs.Prelude.{if◌then◌else◌}
 use Rattle.std.specs.List.{list_all}
 use Rattle.std.specs.Str.{bytes_eq}
 use Rattle.web2c_cli.specs.declared.command_table.NameKind.{NameKind}
-use Rattle.web2c_cli.specs.declared.command_table.NameKind.TheVariants.{Web, File}
+use Rattle.web2c_cli.specs.declared.command_table.NameKind.TheVariants.{Web, Pascal, File}
 
 -- a byte that a file's name may have: a visible one, but neither `"` nor a backslash
 abbrev pub is_name_byte : ℕ → Bool
@@ -24,9 +24,14 @@ without_ending ending word =
 abbrev pub base_of : List ℕ → List ℕ
 base_of web = without_ending (codes ".web") web
 
--- whether the word can name what is named there: a file, and of a web the base is not empty
+-- the name of a Pascal program without `.p`
+abbrev pub pascal_base_of : List ℕ → List ℕ
+pascal_base_of pascal = without_ending (codes ".p") pascal
+
+-- whether the word can name what is named there: a file, and of a web or a Pascal program the base is not empty
 abbrev pub is_name_of : NameKind → List ℕ → Bool
 is_name_of Web word = is_file_name word && not (length (base_of word) == 0)
+is_name_of Pascal word = is_file_name word && not (length (pascal_base_of word) == 0)
 is_name_of File word = is_file_name word
 
 -- the name of a file that is made of a web, with this ending

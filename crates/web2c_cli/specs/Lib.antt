@@ -12,5 +12,7 @@ pub use Rattle.tangle_core.specs.Work
 pub mod Status
 pub mod FileNames
 pub mod CommandLine
+pub mod Readings
+pub mod Runs
 pub mod Program
 pub mod inner

@@ -1,23 +1,26 @@
 -- The program: what is done for each request, in its order. The order of work, the statuses, the console texts and the
 -- names of the files are this project's own.
-use Rattle.std.specs.Prelude.{ℕ, Bool, true, false, List, [], ◌∷◌, ◌++◌, codes, Option, Some, None, unwrap_or}
-use Rattle.std.specs.Prelude.{option_map}
-use Rattle.std.specs.Option.{option_and_then}
+use Rattle.std.specs.Prelude.{ℕ, nat_lt, if◌then◌else◌, Bool, true, false, List, [], ◌∷◌, ◌++◌, length, codes, Option}
+use Rattle.std.specs.Prelude.{Some, None, unwrap_or, Result, Ok, Err}
 use Rattle.wb_base.specs.declared.places.FileTag.{FileTag}
 use Rattle.wb_base.specs.declared.places.FileTag.TheVariants.{Web, Change, Pool, Pas, Header, Code}
 use Rattle.wb_base.specs.declared.faults.Fault.{Fault}
+use Rattle.wb_base.specs.declared.faults.TheConstants.{FILE_RULE}
 use Rattle.wb_base.specs.ConsoleLine.{console_line}
-use Rattle.wb_ports.specs.PortState.{PortState}
+use Rattle.wb_base.specs.FaultAt.{fault_at}
 use Rattle.web2c_cli.specs.declared.command_table.Command.{Command}
-use Rattle.web2c_cli.specs.declared.command_table.Command.TheVariants.{Tangle, Pooltype}
+use Rattle.web2c_cli.specs.declared.command_table.Command.TheVariants.{Tangle, Pooltype, Prun}
 use Rattle.web2c_cli.specs.declared.status.Status.TheVariants.{Done, Refused, Usage}
 use Rattle.web2c_cli.specs.Status.{number_of}
 use Rattle.web2c_cli.specs.FileNames.{base_of, output_name, pascal_name, code_name}
 use Rattle.web2c_cli.specs.CommandLine.{Names, Order, Request, ordered, usage, usage_line, options_by_settings}
+use Rattle.web2c_cli.specs.CommandLine.{steps_by_settings}
+use Rattle.web2c_cli.specs.Readings.{Pascal, Readings, AreRight}
+use Rattle.web2c_cli.specs.Runs.{play_of, telling_end}
 use Rattle.web_pool.specs.Listing.{Listing, listing}
 use Rattle.tangle_core.specs.declared.job.Job.{Job}
 use Rattle.tangle_core.specs.Outcome.{Output}
-use Rattle.tangle_core.specs.Work.{Work, loads, does, prints, ends}
+use Rattle.tangle_core.specs.Work.{Work, loads, asks, plays, does, prints, ends, unknown, World, Cause, Ends, Stops}
 use Rattle.tangle_core.specs.Job.{Going_on, tangling}
 
 -- the name that is printed with a fault in a file: the word that was given for it, or the name of the output
@@ -29,6 +32,7 @@ file_name Tangle names Pas = pascal_name names.first
 file_name Tangle names Header = output_name names.first (codes ".h")
 file_name Tangle names (Code number) = code_name names.first number
 file_name Pooltype names tag = names.first
+file_name Prun names tag = names.first
 
 -- the line that reports a fault, with its byte 10
 abbrev pub fault_line : Order → Fault → List ℕ
@@ -76,19 +80,47 @@ refused_by order (Some fault) = refused order fault
 abbrev pub printing_listing : Order → Listing → Work
 printing_listing order wanted = does (prints wanted.text) (refused_by order wanted.fault)
 
+-- the work of `pooltype`
+abbrev pub pooltype_work : Order → Work
+pooltype_work order = loads order.names.first (λ bytes. printing_listing order (listing bytes))
+
+-- a program is run over a port for each of its files, and how it ended is told; where there are fewer ports, its first
+-- line has a fault
+abbrev pub running : Order → Pascal → Work
+running order pascal =
+    let files = length pascal.program.files in
+    let steps = steps_by_settings order.settings in
+    asks (λ ports. if nat_lt ports files
+    then refused order (fault_at FILE_RULE (record { file = Pas; line = pascal.line }))
+    else plays files (play_of pascal.program steps) (telling_end steps))
+
+-- a text that was read is run, if it has no fault
+abbrev pub running_read : Order → Option (Result Pascal Fault) → Work
+running_read order None = unknown
+running_read order (Some (Err fault)) = refused order fault
+running_read order (Some (Ok pascal)) = running order pascal
+
+-- the work of `prun`
+abbrev pub prun_work : Readings → Order → Work
+prun_work readings order = loads order.names.first (λ text. running_read order (readings text))
+
 -- what each command does
-abbrev pub command_work : Command → Order → Work
-command_work Tangle order = tangle_work order
-command_work Pooltype order = loads order.names.first (λ bytes. printing_listing order (listing bytes))
+abbrev pub command_work : Readings → Command → Order → Work
+command_work readings Tangle order = tangle_work order
+command_work readings Pooltype order = pooltype_work order
+command_work readings Prun order = prun_work readings order
 
 -- what the program does for a request
-abbrev pub work_of : Request → Work
-work_of (ordered order) = command_work order.command order
-work_of usage = does (prints usage_line) (ends (number_of Usage))
+abbrev pub work_of : Readings → Request → Work
+work_of readings (ordered order) = command_work readings order.command order
+work_of readings usage = does (prints usage_line) (ends (number_of Usage))
 
--- the bytes of each port, where all ports tell them
-abbrev pub port_bytes : {P : Type 0} → (P → Option PortState) → List P → Option (List (List ℕ))
-port_bytes told [] = Some []
-port_bytes told (port ∷ ports) =
-    option_and_then (λ (state : PortState). option_map (λ others. state.bytes ∷ others) (port_bytes told ports))
-    (told port)
+-- the work of a request ended by itself with this status
+abbrev pub EndsAs : Request → ℕ → World → World → Type 0
+EndsAs request status before now =
+    (readings : Readings) × AreRight readings × Ends (work_of readings request) status before now
+
+-- the work of a request was stopped by this cause
+abbrev pub StopsBy : Request → Cause → World → World → Type 0
+StopsBy request cause before now =
+    (readings : Readings) × AreRight readings × Stops (work_of readings request) cause before now

@@ -1,7 +1,9 @@
 //! Calls of the shelf and the console as parts of the work.
 ghost use Rattle.std.specs.Prelude.{◌≡◌, false, IfErr};
 ghost use Rattle.wb_ports.specs.Counts.{CountsFailure};
-ghost use Rattle.web2c_cli.specs.inner.Reaching.{Loading, Printing, is_by_shelf, is_by_console};
+ghost use Rattle.wb_ports.specs.Files.{SameFiles};
+ghost use Rattle.wb_ports.specs.Held.{WhereTold};
+ghost use Rattle.web2c_cli.specs.inner.Reaching.{Loading, Printing, is_by_shelf, is_by_console, is_by_port};
 
 use crate::halt::Stop;
 use std::alloc::Global;
@@ -11,9 +13,10 @@ use wb_ports::{Failed, Shelf, Sink};
 /// Loads a file.
 pub fn load<S: Shelf>(alloc: Global, name: &[u8], shelf: &mut S) -> Result<Text, Stop>
     ensures work { Loading name.now result (S.last_failure shelf.new) (S.files shelf.old) (S.files shelf.new) }
+    ensures same { WhereTold SameFiles (S.files shelf.old) (S.files shelf.new) }
     ensures is_open { S.is_open shelf.new ≡ S.is_open shelf.old }
     ensures cause { CountsFailure (is_by_shelf result) (S.faults shelf.old) (S.faults shelf.new) }
-    ensures quiet { is_by_console result ≡ false }
+    ensures quiet { (is_by_console result ≡ false) × (is_by_port result ≡ false) }
 {
     let text = shelf.load(alloc, name)?;
     Ok(text)

@@ -3,11 +3,11 @@ ghost use Rattle.std.specs.Prelude.{◌≡◌, find, map, drop, nat_le};
 ghost use Rattle.std.specs.List.{list_all};
 ghost use Rattle.std.specs.Option.{option_map};
 ghost use Rattle.std.specs.Str.{bytes_eq};
-ghost use Rattle.web2c_cli.specs.CommandLine.{command_table, set_the_same, sets, times_set, with_setting};
-ghost use Rattle.web2c_cli.specs.CommandLine.{options_by_settings};
-ghost use Rattle.web2c_cli.specs.CommandLine.{parts_of, names_for, request_by, request_of};
+ghost use Rattle.web2c_cli.specs.CommandLine.{set_the_same, sets, times_set, with_setting};
+ghost use Rattle.web2c_cli.specs.CommandLine.{options_by_settings, with_steps, steps_by_settings};
+ghost use Rattle.web2c_cli.specs.CommandLine.{parts_of, names_for, command_of, request_by, request_of};
 ghost use Rattle.web2c_cli.specs.inner.Table.{options_by, command_by};
-ghost use Rattle.web2c_cli.specs.inner.Reading.{names_by, request_as, with_name};
+ghost use Rattle.web2c_cli.specs.inner.Reading.{names_by, request_as, with_name, is_name_at};
 
 use crate::command_table::{COMMANDS, Command, CommandRow, Comparison, OptionRow, Setting, Value};
 use crate::file_names::is_name_of;
@@ -77,9 +77,9 @@ pub fn read_request(words: &Words) -> Request<'_>
     }
 }
 
-// The row of the command of this word.
-fn command_row(word: &[u8]) -> Option<CommandRow>
-    ensures { option_map command_by result ≡ find (λ form. bytes_eq form.word word.now) command_table }
+/// The row of the command of this word.
+pub fn command_row(word: &[u8]) -> Option<CommandRow>
+    ensures { option_map command_by result ≡ command_of word.now }
 {
     row_of_word(&COMMANDS, word)
 }
@@ -160,6 +160,20 @@ impl Settings<'_> {
         }
         options
     }
+
+    /// How many steps a run may take by the settings.
+    pub fn steps(&self) -> u32
+        ensures { result ≡ steps_by_settings self.now }
+    {
+        let mut steps = DEFAULT_STEPS;
+        let mut cursor = Cursor::FIRST;
+        while let Some(part) = next_part(self.words, self.options, &mut cursor) {
+            if let Part::Given(setting) = part {
+                steps = with_steps(steps, setting);
+            }
+        }
+        steps
+    }
 }
 
 // What tangling chooses where nothing is set.
@@ -185,6 +199,20 @@ fn with_setting(options: Options, setting: Setting) -> Options
             strict: comparison == Comparison::Strict,
             ..options
         },
+        Setting::Steps(_) => options,
+    }
+}
+
+// How many steps a run may take where nothing is set.
+const DEFAULT_STEPS: u32 = 1_000_000_000;
+
+// How many steps a run may take after a setting.
+fn with_steps(steps: u32, setting: Setting) -> u32
+    ensures { result ≡ with_steps steps setting }
+{
+    match setting {
+        Setting::Steps(most) => most,
+        Setting::Length(_) | Setting::Underline | Setting::Letters(_) | Setting::Words(_) => steps,
     }
 }
 
@@ -195,6 +223,7 @@ fn sets(value: Value, setting: Setting) -> bool
     match value {
         Value::Fixed(given) => set_the_same(given, setting),
         Value::Length => matches!(setting, Setting::Length(_)),
+        Value::Steps => matches!(setting, Setting::Steps(_)),
     }
 }
 
@@ -207,6 +236,7 @@ fn set_the_same(setting: Setting, other: Setting) -> bool
         Setting::Underline => matches!(other, Setting::Underline),
         Setting::Letters(_) => matches!(other, Setting::Letters(_)),
         Setting::Words(_) => matches!(other, Setting::Words(_)),
+        Setting::Steps(_) => matches!(other, Setting::Steps(_)),
     }
 }
 
@@ -221,7 +251,7 @@ fn read_names<'w>(words: &'w Words, row: &CommandRow) -> Option<Names<'w>>
     while let Some(part) = next_part(words, row.options, &mut cursor) {
         match part {
             Part::Name(word) => {
-                if count >= row.names.len() || !is_name_of(row.names[count], word) {
+                if !is_name_at(row, count, word) {
                     return None;
                 }
                 names = Some(with_name(names, word));
@@ -232,6 +262,16 @@ fn read_names<'w>(words: &'w Words, row: &CommandRow) -> Option<Names<'w>>
         }
     }
     if count < row.needed { None } else { names }
+}
+
+// Whether the word can name what stands at this place, from 0.
+fn is_name_at(row: &CommandRow, index: usize, word: &[u8]) -> bool
+    ensures { result ≡ is_name_at (command_by row.now) index word.now }
+{
+    match row.names.get(index).copied().or(row.more) {
+        Some(kind) => is_name_of(kind, word),
+        None => false,
+    }
 }
 
 // The names with one more, of which the first two are kept.

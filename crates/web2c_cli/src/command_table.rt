@@ -9,6 +9,8 @@ pub enum Command {
     Tangle,
     /// `pooltype`: the listing of a pool.
     Pooltype,
+    /// `prun`: the run of a Pascal program.
+    Prun,
 }
 
 /// What a word names.
@@ -16,6 +18,8 @@ pub enum Command {
 pub enum NameKind {
     /// A web, by whose name other files are named.
     Web,
+    /// A Pascal program.
+    Pascal,
     /// Another file.
     File,
 }
@@ -40,6 +44,8 @@ pub enum Setting {
     Letters(Case),
     /// How words are compared.
     Words(Comparison),
+    /// How many steps a run may take.
+    Steps(u32),
 }
 
 /// The least length of words that may be set.
@@ -48,6 +54,12 @@ pub const LEAST_LENGTH: u64 = 1;
 /// The greatest length of words that may be set.
 pub const GREATEST_LENGTH: u64 = 50;
 
+/// The least number of steps that may be set.
+pub const LEAST_STEPS: u64 = 0;
+
+/// The greatest number of steps that may be set.
+pub const GREATEST_STEPS: u64 = 1_000_000_000;
+
 /// The value of an option.
 #[derive(Clone, Copy)]
 pub enum Value {
@@ -55,6 +67,8 @@ pub enum Value {
     Fixed(Setting),
     /// A length of words is written, from the least to the greatest.
     Length,
+    /// A number of steps is written, from the least to the greatest.
+    Steps,
 }
 
 /// An option of a command.
@@ -77,6 +91,8 @@ pub struct CommandRow {
     pub needed: usize,
     /// What each name that it may have names.
     pub names: &'static [NameKind],
+    /// What each name behind those names, where any number of them may come.
+    pub more: Option<NameKind>,
     /// Its options.
     pub options: &'static [OptionRow],
 }
@@ -113,13 +129,20 @@ const TANGLE_OPTIONS: [OptionRow; 7] = [
     },
 ];
 
+/// The option of the run of a program.
+const RUN_OPTIONS: [OptionRow; 1] = [OptionRow {
+    spelling: b"--steps",
+    value: Value::Steps,
+}];
+
 /// The commands that are built.
-pub const COMMANDS: [CommandRow; 2] = [
+pub const COMMANDS: [CommandRow; 3] = [
     CommandRow {
         word: b"tangle",
         command: Command::Tangle,
         needed: 1,
         names: &[NameKind::Web, NameKind::File],
+        more: None,
         options: &TANGLE_OPTIONS,
     },
     CommandRow {
@@ -127,6 +150,15 @@ pub const COMMANDS: [CommandRow; 2] = [
         command: Command::Pooltype,
         needed: 1,
         names: &[NameKind::File],
+        more: None,
         options: &[],
+    },
+    CommandRow {
+        word: b"prun",
+        command: Command::Prun,
+        needed: 1,
+        names: &[NameKind::Pascal],
+        more: Some(NameKind::File),
+        options: &RUN_OPTIONS,
     },
 ];

@@ -2,6 +2,7 @@
 ghost use Rattle.std.specs.Prelude.{◌≡◌, IfOk};
 ghost use Rattle.std.specs.List.{list_all};
 ghost use Rattle.web2c_cli.specs.FileNames.{is_name_byte, is_file_name, is_name_of, base_of, output_name, code_name};
+ghost use Rattle.web2c_cli.specs.FileNames.{pascal_base_of};
 
 use crate::command_table::NameKind;
 use std::alloc::Global;
@@ -13,6 +14,7 @@ pub fn is_name_of(kind: NameKind, word: &[u8]) -> bool
 {
     match kind {
         NameKind::Web => is_file_name(word) && !base(word).is_empty(),
+        NameKind::Pascal => is_file_name(word) && !pascal_base(word).is_empty(),
         NameKind::File => is_file_name(word),
     }
 }
@@ -43,6 +45,13 @@ fn base(web: &[u8]) -> &[u8]
     ensures { result.now ≡ base_of web.now }
 {
     web.strip_suffix(b".web".as_slice()).unwrap_or(web)
+}
+
+// The name of a Pascal program without a last `.p`.
+fn pascal_base(pascal: &[u8]) -> &[u8]
+    ensures { result.now ≡ pascal_base_of pascal.now }
+{
+    pascal.strip_suffix(b".p".as_slice()).unwrap_or(pascal)
 }
 
 /// The name of a file that is made of a web, with this ending.

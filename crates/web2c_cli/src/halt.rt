@@ -2,7 +2,7 @@
 ghost use Rattle.std.specs.Prelude.{◌≡◌};
 
 use tangle_core::TangleErr;
-use wb_base::{Fault, OutOfMemory};
+use wb_base::{Fault, OutOfMemory, WorkErr};
 use wb_ports::PortErr;
 use web_pool::PoolTypeErr;
 
@@ -13,6 +13,8 @@ pub enum Stop {
     Shelf,
     /// A call of the console failed.
     Console,
+    /// A call of a port failed.
+    Port,
     /// No memory was found.
     OutOfMemory,
 }
@@ -81,6 +83,19 @@ impl From<TangleErr> for Halt {
             TangleErr::Fault(fault) => Halt::Fault(fault),
             TangleErr::Failed => Halt::Stopped(Stop::Shelf),
             TangleErr::OutOfMemory => Halt::Stopped(Stop::OutOfMemory),
+        }
+    }
+}
+
+impl From<WorkErr> for Halt {
+    ghost use Rattle.web2c_cli.specs.inner.Running.{halt_by_work};
+
+    ghost from_gives = { λ err halt. halt ≡ halt_by_work err };
+
+    fn from(err: WorkErr) -> Self {
+        match err {
+            WorkErr::Fault(fault) => Halt::Fault(fault),
+            WorkErr::OutOfMemory => Halt::Stopped(Stop::OutOfMemory),
         }
     }
 }

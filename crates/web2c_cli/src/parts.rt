@@ -1,15 +1,17 @@
 //! What the words of a command line say, part by part.
-ghost use Rattle.std.specs.Prelude.{◌≡◌, ◌<◌, ℕ, List, [], ◌∷◌, Some, None, MatchOption, IfSome, false};
+ghost use Rattle.std.specs.Prelude.{◌≡◌, ◌<◌, ◌^◌, ◌≤◌, ℕ, List, [], ◌∷◌, Some, None, MatchOption, IfSome, false};
 ghost use Rattle.std.specs.Prelude.{slice_get, length, find, if◌then◌else◌};
 ghost use Rattle.std.specs.Option.{option_copied, option_map};
 ghost use Rattle.std.specs.Str.{bytes_eq};
 ghost use Rattle.web2c_cli.specs.CommandLine.{OptionForm, ends_options, is_dashed, option_part, takes_next, word_part};
 ghost use Rattle.web2c_cli.specs.CommandLine.{equals_sign_in, spelling_in, value_in, option_of};
-ghost use Rattle.web2c_cli.specs.CommandLine.{number_written, is_number_within, setting_by};
+ghost use Rattle.web2c_cli.specs.CommandLine.{number_written, is_number_within, setting_by, takes_value};
 ghost use Rattle.web2c_cli.specs.inner.Table.{option_by, options_by};
 ghost use Rattle.web2c_cli.specs.inner.Reading.{part_by, parts_from};
 
-use crate::command_table::{GREATEST_LENGTH, LEAST_LENGTH, OptionRow, Setting, Value};
+use crate::command_table::{
+    GREATEST_LENGTH, GREATEST_STEPS, LEAST_LENGTH, LEAST_STEPS, OptionRow, Setting, Value,
+};
 use wb_base::Words;
 
 /// What a word says, or an option and the word after it.
@@ -46,10 +48,11 @@ pub fn next_part<'w>(
     options: &[OptionRow],
     cursor: &mut Cursor,
 ) -> Option<Part<'w>>
-    ensures { MatchOption result
+    ensures part { MatchOption result
         (parts_from (options_by options.now) cursor.old words.now ≡ [])
         (λ part. parts_from (options_by options.now) cursor.old words.now
         ≡ part_by part ∷ parts_from (options_by options.now) cursor.new words.now) }
+    ensures moved { IfSome result (λ part. (cursor.old.at < cursor.new.at) × (cursor.new.at < 2 ^ 64)) }
 {
     pass_end_mark(words, cursor);
     if cursor.at >= words.count() {
@@ -74,6 +77,7 @@ fn pass_end_mark(words: &Words, cursor: &mut Cursor)
         parts_from options cursor.new words.now ≡ parts_from options cursor.old words.now }
     ensures passed { (word : List ℕ) → cursor.new.names_only ≡ false → slice_get words.now cursor.new.at ≡ Some word
         → ends_options word ≡ false }
+    ensures moved { cursor.old.at ≤ cursor.new.at }
 {
     if cursor.names_only || cursor.at >= words.count() {
         return;
@@ -109,8 +113,18 @@ fn takes_next(options: &[OptionRow], word: &[u8]) -> bool
         return false;
     }
     match option_of(options, word) {
-        Some(row) => matches!(row.value, Value::Length),
+        Some(row) => takes_value(row.value),
         None => false,
+    }
+}
+
+// Whether an option with such a value takes it from the command line.
+fn takes_value(value: Value) -> bool
+    ensures { result ≡ takes_value value }
+{
+    match value {
+        Value::Fixed(_) => false,
+        Value::Length | Value::Steps => true,
     }
 }
 
@@ -145,7 +159,11 @@ fn setting_by<'w>(value: Value, written: Option<&[u8]>) -> Part<'w>
             Some(length) => Part::Given(Setting::Length(length as u8)),
             None => Part::Unknown,
         },
-        (Value::Fixed(_), Some(_)) | (Value::Length, None) => Part::Unknown,
+        (Value::Steps, Some(text)) => match number_within(LEAST_STEPS, GREATEST_STEPS, text) {
+            Some(steps) => Part::Given(Setting::Steps(steps as u32)),
+            None => Part::Unknown,
+        },
+        (Value::Fixed(_), Some(_)) | (Value::Length | Value::Steps, None) => Part::Unknown,
     }
 }
 

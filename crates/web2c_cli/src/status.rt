@@ -9,10 +9,16 @@ pub enum Status {
     Refused = 1,
     /// The command line is faulty, and the usage line was printed.
     Usage = 2,
-    /// A call of the shelf or the console failed.
+    /// A call of the shelf, the console or a port failed.
     Failed = 3,
     /// No memory was found.
     OutOfMemory = 4,
+    /// The run of a program went on at its bound of steps.
+    Unfinished = 5,
+    /// The run of a program committed an error.
+    Erroneous = 6,
+    /// The calls of a program nested too deep.
+    TooDeep = 7,
 }
 
 impl Status {

@@ -1,12 +1,13 @@
 //! From a web on the shelf to its Pascal file and its pool.
 ghost use Rattle.std.specs.Prelude.{◌≡◌, ◌⊎◌, ℕ, List, Option, false, IfOk, IsErrOf};
 ghost use Rattle.wb_ports.specs.Counts.{CountsFailure};
+ghost use Rattle.wb_ports.specs.PortState.{PortState};
 ghost use Rattle.tangle_core.specs.Job.{world_of};
 ghost use Rattle.web2c_cli.specs.Program.{job_of};
 ghost use Rattle.web2c_cli.specs.declared.halt.Halt.TheVariants.{Stopped};
 ghost use Rattle.web2c_cli.specs.inner.Reading.{order_by};
-ghost use Rattle.web2c_cli.specs.inner.Reaching.{Tangling, TellingNoOutput, is_by_shelf, is_by_console};
-ghost use Rattle.web2c_cli.specs.inner.Reaching.{is_halted_by_shelf, is_halted_by_console};
+ghost use Rattle.web2c_cli.specs.inner.Reaching.{Tangling, TellingNoOutput, is_by_shelf, is_by_console, is_by_port};
+ghost use Rattle.web2c_cli.specs.inner.Reaching.{is_halted_by_shelf, is_halted_by_console, is_halted_by_port};
 
 use crate::calls::print;
 use crate::command_line::Order;
@@ -30,12 +31,13 @@ pub fn tangle_web<S: Shelf, K: Sink>(
 ) -> Result<(), Halt>
     requires { S.is_open shelf.old ≡ false }
 
-    ensures work { (ports : Option (List (List ℕ))) →
+    ensures work { (ports : List (Option PortState)) →
         Tangling (order_by order.now) result (S.last_failure shelf.new)
         (world_of (S.files shelf.old) (K.held con.old) ports) (world_of (S.files shelf.new) (K.held con.new) ports) }
     ensures closed { IsErrOf result (Stopped Stop.Shelf) ⊎ (S.is_open shelf.new ≡ false) }
     ensures shelf_cause { CountsFailure (is_halted_by_shelf result) (S.faults shelf.old) (S.faults shelf.new) }
     ensures con_cause { CountsFailure (is_halted_by_console result) (K.faults con.old) (K.faults con.new) }
+    ensures no_port { is_halted_by_port result ≡ false }
     ensures frame { K.frame con.new ≡ K.frame con.old }
 {
     let job = job_of(alloc, order)?;
@@ -53,7 +55,7 @@ pub fn tangle_web<S: Shelf, K: Sink>(
 fn tell_no_output<K: Sink>(no_output: bool, con: &mut K) -> Result<(), Stop>
     ensures work { TellingNoOutput no_output result (K.held con.old) (K.held con.new) }
     ensures cause { CountsFailure (is_by_console result) (K.faults con.old) (K.faults con.new) }
-    ensures quiet { is_by_shelf result ≡ false }
+    ensures quiet { (is_by_shelf result ≡ false) × (is_by_port result ≡ false) }
     ensures frame { K.frame con.new ≡ K.frame con.old }
 {
     if no_output {

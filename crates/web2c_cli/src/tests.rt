@@ -1,9 +1,10 @@
-//! The worked rows over a shelf and a console in memory, and calls that fail on the way.
+//! The worked rows over a shelf, a console and ports in memory, and calls that fail on the way.
+use crate::file_words::file_words;
 use crate::run::run;
 use std::alloc::Global;
 use std::test::Fail;
 use wb_base::{OutOfMemory, Words};
-use wb_ports::{MemShelf, MemSink};
+use wb_ports::{MemPort, MemShelf, MemSink, Port};
 
 // The room of a written file and of the console.
 const ROOM: usize = 4096;
@@ -118,6 +119,14 @@ fn reads_the_words(rt: HostRuntime) -> Result<(), Fail> {
         Line { words: b"pooltype|", status: 2 },
         Line { words: b"pooltype|a pool", status: 2 },
         Line { words: b"pooltype|b.pool", status: 3 },
+        Line { words: b"prun", status: 2 },
+        Line { words: b"prun|.p", status: 2 },
+        Line { words: b"prun|t.p|a b", status: 2 },
+        Line { words: b"prun|--strict|t.p", status: 2 },
+        Line { words: b"prun|t.p|--steps=1000000001", status: 2 },
+        Line { words: b"prun|t.p|--steps=1|--steps=1", status: 2 },
+        Line { words: b"prun|u.p", status: 3 },
+        Line { words: b"prun|--steps|0|u.p|:std|:std", status: 3 },
         Line { words: b"tangle|-", status: 3 },
         Line { words: b"tangle|--|-t.web", status: 3 },
         Line { words: b"tangle|u.web", status: 3 },
@@ -290,6 +299,96 @@ fn lists_pools(rt: HostRuntime) -> Result<(), Fail> {
         );
         assert!(rt; printed.ends_with(row.end), "row {index}");
         assert_eq!(rt; (index, left.file(b"t.p")), (index, OLD));
+    }
+    Ok(())
+}
+
+// A program of `p.p`, the words over a port for each name behind it, what the ports hold and the calls at which each
+// fails, and what it comes to: the status, the console's text and how many ports are left.
+#[derive(Clone, Copy)]
+struct Run {
+    words: &'static [u8],
+    program: &'static [u8],
+    input: &'static [u8],
+    fails: u64,
+    status: u8,
+    console: &'static [u8],
+    ports: usize,
+}
+
+const P: &[u8] = b"prun|p.p";
+
+const P_O: &[u8] = b"prun|p.p|o";
+
+const P_I_O: &[u8] = b"prun|p.p|i|o";
+
+const P_1: &[u8] = b"prun|p.p|o|--steps=1";
+
+const HALTED: &[u8] = b"Halted with status 0.\n";
+
+const HALTED_7: &[u8] = b"Halted with status 7.\n";
+
+const STOPPED: &[u8] = b"! Stopped after 1 steps.\n";
+
+const UNDEFINED: &[u8] = b"! Error: undefined value (E1)\n";
+
+const AT_END: &[u8] = b"! Error: at the end of the file (E11)\n";
+
+const DEEP: &[u8] = b"! Calls nested too deep.\n";
+
+const FILE_RULE: &[u8] = b"! p.p:2: file rule (F61)\n";
+
+const UNKNOWN: &[u8] = b"! p.p:1: unknown name (F54)\n";
+
+const SYNTAX: &[u8] = b"! p.p:1: syntax (F52)\n";
+
+const WRITES: &[u8] = b"\nprogram t(output);begin write(output,'a') end.";
+
+const READS: &[u8] = b"program t(input,output);var c:char;begin read(input,c);write(output,c) end.";
+
+const TWO_TURNS: &[u8] =
+    b"program t(output);var i:integer;begin for i:=1 to 2 do write(output,i:1) end.";
+
+const CALLS_ITSELF: &[u8] = b"program t(output);procedure q;begin q end;begin q end.";
+
+#[test]
+fn runs_programs(rt: HostRuntime) -> Result<(), Fail> {
+    #[rattlefmt::skip]
+    let rows = [
+        Run { words: P_O, program: WRITES, input: b"", fails: 0, status: 0, console: HALTED, ports: 1 },
+        Run { words: P_I_O, program: WRITES, input: b"", fails: 0, status: 0, console: HALTED, ports: 1 },
+        Run { words: P, program: WRITES, input: b"", fails: 0, status: 1, console: FILE_RULE, ports: 0 },
+        Run { words: P_I_O, program: READS, input: b"ab", fails: 0, status: 0, console: HALTED, ports: 2 },
+        Run { words: P_I_O, program: READS, input: b"", fails: 0, status: 6, console: AT_END, ports: 2 },
+        Run { words: P_I_O, program: READS, input: b"ab", fails: 1, status: 3, console: b"", ports: 2 },
+        Run { words: P_I_O, program: READS, input: b"ab", fails: 9, status: 0, console: HALTED, ports: 2 },
+        Run { words: P_O, program: TWO_TURNS, input: b"", fails: 0, status: 0, console: HALTED, ports: 1 },
+        Run { words: P_1, program: TWO_TURNS, input: b"", fails: 0, status: 5, console: STOPPED, ports: 1 },
+        Run { words: P_O, program: CALLS_ITSELF, input: b"", fails: 0, status: 7, console: DEEP, ports: 1 },
+        Run { words: P_O, program: b"program t;begin uexit(7) end.", input: b"",
+            fails: 0, status: 0, console: HALTED_7, ports: 0 },
+        Run { words: P_O, program: b"program t;var i:integer;begin i:=i+1 end.", input: b"",
+            fails: 0, status: 6, console: UNDEFINED, ports: 0 },
+        Run { words: P_O, program: b"program t;begin x:=1 end.", input: b"",
+            fails: 0, status: 1, console: UNKNOWN, ports: 1 },
+        Run { words: P_O, program: b"program", input: b"", fails: 0, status: 1, console: SYNTAX, ports: 1 },
+    ];
+    for (index, row) in rows.iter().enumerate() {
+        let alloc = rt.alloc();
+        let mut shelf = MemShelf::new(alloc, ROOM, &[])?;
+        shelf.put_file(b"p.p", row.program)?;
+        let mut con = MemSink::new(alloc, ROOM, &[])?;
+        let words = words_of(alloc, row.words)?;
+        let files = file_words(alloc, &words)?;
+        let mut ports: Vec<Box<dyn Port>> = Vec::new(alloc);
+        for _ in 0..files.count() {
+            let input = &row.input[..row.input.len().min(ROOM)];
+            ports.push(Box::new(alloc, MemPort::new(alloc, input, ROOM, &[row.fails])?)?)?;
+        }
+        let status = run(alloc, &words, &mut shelf, &mut con, &mut ports);
+        assert_eq!(rt; (index, status), (index, row.status));
+        assert_eq!(rt; (index, con.bytes()), (index, row.console));
+        assert_eq!(rt; (index, ports.len()), (index, row.ports));
     }
     Ok(())
 }

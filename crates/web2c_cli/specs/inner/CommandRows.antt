@@ -1,11 +1,12 @@
 -- The definition of the command line at work.
 use Rattle.std.specs.Prelude.{◌≡◌, ℕ, List, [], ◌∷◌, codes, Option, Some, None, true, false, refl}
 use Rattle.wb_base.specs.declared.options.Case.TheVariants.{Upper, Lower, Mixed}
-use Rattle.web2c_cli.specs.declared.command_table.Command.TheVariants.{Tangle, Pooltype}
+use Rattle.web2c_cli.specs.declared.command_table.Command.TheVariants.{Tangle, Pooltype, Prun}
 use Rattle.web2c_cli.specs.declared.command_table.Comparison.TheVariants.{Loose, Strict}
 use Rattle.web2c_cli.specs.declared.command_table.Setting.{Setting}
-use Rattle.web2c_cli.specs.declared.command_table.Setting.TheVariants.{Length, Underline, Letters, Words}
+use Rattle.web2c_cli.specs.declared.command_table.Setting.TheVariants.{Length, Underline, Letters, Words, Steps}
 use Rattle.web2c_cli.specs.CommandLine.{parts_of, Request, ordered, usage, request_of, options_by_settings}
+use Rattle.web2c_cli.specs.CommandLine.{steps_by_settings, file_words}
 
 -- the order to tangle the web with the change file, if there is one
 abbrev tangle : List ℕ → Option (List ℕ) → Request
@@ -226,3 +227,131 @@ chosen_by_default = refl
 pub chosen_all : options_by_settings (Words Strict ∷ Length 7 ∷ Letters Upper ∷ Underline ∷ [])
     ≡ record { length = 7; underline = true; case = Upper; strict = true }
 chosen_all = refl
+
+-- the order to run the Pascal program `t.p` with these settings; of the names behind it the first is kept
+abbrev run : Option (List ℕ) → List Setting → Request
+run file settings =
+    ordered (record { command = Prun; names = record { first = codes "t.p"; second = file }; settings = settings })
+
+-- what is asked for by these words after `prun`
+abbrev run_asked : List (List ℕ) → Request
+run_asked words = request_of (codes "prun" ∷ words)
+
+pub program_alone : run_asked (codes "t.p" ∷ [])
+    ≡ run None []
+unfolding request_of parts_of
+program_alone = refl
+
+pub program_and_files : run_asked (codes "t.p" ∷ codes "a" ∷ codes "b" ∷ codes "c" ∷ [])
+    ≡ run (Some (codes "a")) []
+unfolding request_of parts_of
+program_and_files = refl
+
+pub standard_streams : run_asked (codes "t.p" ∷ codes ":std" ∷ [])
+    ≡ run (Some (codes ":std")) []
+unfolding request_of parts_of
+standard_streams = refl
+
+pub no_program : run_asked []
+    ≡ usage
+unfolding request_of parts_of
+no_program = refl
+
+pub empty_base_of_program : run_asked (codes ".p" ∷ [])
+    ≡ usage
+unfolding request_of parts_of
+empty_base_of_program = refl
+
+pub empty_base_of_file : run_asked (codes "t.p" ∷ codes ".p" ∷ [])
+    ≡ run (Some (codes ".p")) []
+unfolding request_of parts_of
+empty_base_of_file = refl
+
+pub file_with_quote : run_asked (codes "t.p" ∷ (97 ∷ 34 ∷ 98 ∷ []) ∷ [])
+    ≡ usage
+unfolding request_of parts_of
+file_with_quote = refl
+
+pub fourth_name_with_quote : run_asked (codes "t.p" ∷ codes "a" ∷ codes "b" ∷ (97 ∷ 34 ∷ 98 ∷ []) ∷ [])
+    ≡ usage
+unfolding request_of parts_of
+fourth_name_with_quote = refl
+
+pub no_steps : run_asked (codes "--steps=0" ∷ codes "t.p" ∷ [])
+    ≡ run None (Steps 0 ∷ [])
+unfolding request_of parts_of
+no_steps = refl
+
+pub most_steps : run_asked (codes "t.p" ∷ codes "--steps" ∷ codes "1000000000" ∷ codes "a" ∷ [])
+    ≡ run (Some (codes "a")) (Steps 1000000000 ∷ [])
+unfolding request_of parts_of
+most_steps = refl
+
+pub too_many_steps : run_asked (codes "--steps=1000000001" ∷ codes "t.p" ∷ [])
+    ≡ usage
+unfolding request_of parts_of
+too_many_steps = refl
+
+pub steps_without_value : run_asked (codes "t.p" ∷ codes "--steps" ∷ [])
+    ≡ usage
+unfolding request_of parts_of
+steps_without_value = refl
+
+pub steps_twice : run_asked (codes "--steps=5" ∷ codes "t.p" ∷ codes "--steps" ∷ codes "5" ∷ [])
+    ≡ usage
+unfolding request_of parts_of
+steps_twice = refl
+
+pub length_of_a_run : run_asked (codes "--length=5" ∷ codes "t.p" ∷ [])
+    ≡ usage
+unfolding request_of parts_of
+length_of_a_run = refl
+
+pub steps_of_tangling : asked (codes "--steps=5" ∷ codes "a" ∷ [])
+    ≡ usage
+unfolding request_of parts_of
+steps_of_tangling = refl
+
+pub file_after_end_mark : run_asked (codes "t.p" ∷ codes "--" ∷ codes "-x" ∷ [])
+    ≡ run (Some (codes "-x")) []
+unfolding request_of parts_of
+file_after_end_mark = refl
+
+pub program_after_end_mark : run_asked (codes "--" ∷ codes "t.p" ∷ codes "--" ∷ [])
+    ≡ run (Some (codes "--")) []
+unfolding request_of parts_of
+program_after_end_mark = refl
+
+-- the words that name the files of a run
+pub files_of_a_run : file_words (codes "prun" ∷ codes "t.p" ∷ codes ":std" ∷ codes "a.txt" ∷ [])
+    ≡ codes ":std" ∷ codes "a.txt" ∷ []
+unfolding request_of parts_of
+files_of_a_run = refl
+
+pub files_among_options : file_words
+    (codes "prun" ∷ codes "--steps" ∷ codes "7" ∷ codes "t.p" ∷ codes "a" ∷ codes "--" ∷ codes "-x" ∷ [])
+    ≡ codes "a" ∷ codes "-x" ∷ []
+unfolding request_of parts_of
+files_among_options = refl
+
+pub no_files : file_words (codes "prun" ∷ codes "t.p" ∷ [])
+    ≡ []
+unfolding request_of parts_of
+no_files = refl
+
+pub no_files_of_tangling : file_words (codes "tangle" ∷ codes "t.web" ∷ codes "t.ch" ∷ [])
+    ≡ []
+unfolding request_of parts_of
+no_files_of_tangling = refl
+
+pub no_files_of_a_faulty_line : file_words (codes "prun" ∷ codes "t.p" ∷ codes "a" ∷ codes "--steps=x" ∷ [])
+    ≡ []
+unfolding request_of parts_of
+no_files_of_a_faulty_line = refl
+
+-- how many steps a run may take by the settings
+pub steps_by_default : steps_by_settings [] ≡ 1000000000
+steps_by_default = refl
+
+pub steps_chosen : steps_by_settings (Steps 7 ∷ []) ≡ 7
+steps_chosen = refl

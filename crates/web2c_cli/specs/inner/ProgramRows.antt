@@ -21,7 +21,7 @@ with_file bytes name = if bytes_eq name (codes "t.pool") then Some bytes else No
 
 -- the answer to these words
 abbrev answer_to : List (List ℕ) → Files → Option Answer
-answer_to words files = answer_of (work_of (request_of words)) files
+answer_to words files = answer_of (work_of (λ text. None) (request_of words)) files
 
 -- the answer to `pooltype t.pool`
 abbrev listing_of : List ℕ → Option Answer

@@ -1,8 +1,8 @@
 -- Where a reader of a command line stands, and what the words after that still give.
-use Rattle.std.specs.Prelude.{ℕ, ◌+◌, ◌&&◌, nat_le, List, length, map, drop}
+use Rattle.std.specs.Prelude.{ℕ, Bool, false, ◌+◌, ◌&&◌, nat_le, List, length, map, drop}
 use Rattle.std.specs.Prelude.{if◌then◌else◌, Option, Some, None, slice_get}
 use Rattle.std.specs.List.{list_all, filter_map}
-use Rattle.std.specs.Option.{option_or, option_copied}
+use Rattle.std.specs.Option.{option_map_or, option_or, option_copied}
 use Rattle.web2c_cli.specs.declared.command_line.Names.{Names as NamesRead}
 use Rattle.web2c_cli.specs.declared.command_line.Order.{Order as OrderRead}
 use Rattle.web2c_cli.specs.declared.command_line.Request.{Request as RequestRead}
@@ -11,6 +11,7 @@ use Rattle.web2c_cli.specs.declared.parts.Part.{Part as PartRead}
 use Rattle.web2c_cli.specs.declared.parts.Part.TheVariants.{Name, Given, Unknown}
 use Rattle.web2c_cli.specs.declared.parts.Cursor.{Cursor}
 use Rattle.web2c_cli.specs.CommandLine.{OptionForm, CommandForm, Part, name, setting, unknown, parts_of, Names}
+use Rattle.web2c_cli.specs.FileNames.{is_name_of}
 use Rattle.web2c_cli.specs.CommandLine.{names_of, Order, Request, ordered, usage, name_in, is_known, are_names_of}
 
 -- what is read, as the definitions have it
@@ -49,6 +50,11 @@ more_names (Some names) words =
 abbrev pub names_still : CommandForm → Option Names → ℕ → List Part → Option Names
 names_still form names count parts =
     let words = filter_map name_in parts in
-    if list_all is_known parts && are_names_of (drop count form.names) words && nat_le form.needed
+    if list_all is_known parts && are_names_of (drop count form.names) form.more words && nat_le form.needed
     (count + length words)
     then more_names names words else None
+
+-- whether a name can name what stands at this place, from 0
+abbrev pub is_name_at : CommandForm → ℕ → List ℕ → Bool
+is_name_at form index word =
+    option_map_or (λ kind. is_name_of kind word) (option_or (slice_get form.names index) form.more) false

@@ -16,5 +16,6 @@ command_by row = record {
   command = row.command;
   needed = row.needed;
   names = row.names.now;
+  more = row.more;
   options = options_by row.options.now;
 }

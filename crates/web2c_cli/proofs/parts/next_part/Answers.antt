@@ -6,25 +6,25 @@ use Rattle.web2c_cli.proofs.parts.next_part.Goals as goal
 use Rattle.web2c_cli.proofs.parts.next_part.Goals.{else-cursor-count-2-via-then-cursor-count-2+else-takes_next}
 use Rattle.web2c_cli.proofs.parts.next_part.Goals.{else-cursor-count-2-via-else-cursor-count-2}
 
-pub returns-then-cursor-count : goal.returns-then-cursor-count
-returns-then-cursor-count c =
+pub returns-then-cursor-count-clause-part : goal.returns-then-cursor-count-clause-part
+returns-then-cursor-count-clause-part c =
     sym (c.pass_end_mark.ensures.same (options_by c.args.options.now))
     ∙ none_from (options_by c.args.options.now) c.pass_end_mark.new.cursor c.args.words.now (omega arith)
 
-pub returns-then-cursor : goal.returns-then-cursor
-returns-then-cursor c =
+pub returns-then-cursor-clause-part : goal.returns-then-cursor-clause-part
+returns-then-cursor-clause-part c =
     sym (c.pass_end_mark.ensures.same (options_by c.args.options.now))
     ∙ name_from _ c.pass_end_mark.new.cursor _ _ c.if-cursor.true c.word-word.ensures
 
-pub returns-then-takes_next : goal.returns-then-takes_next
-returns-then-takes_next c =
+pub returns-then-takes_next-clause-part : goal.returns-then-takes_next-clause-part
+returns-then-takes_next-clause-part c =
     sym (c.pass_end_mark.ensures.same (options_by c.args.options.now))
     ∙ pair_from _ c.pass_end_mark.new.cursor _ _ _ c.if-cursor.false c.word-word.ensures c.word-value.ensures
     (c.pass_end_mark.ensures.passed _ c.if-cursor.false c.word-word.ensures) (sym c.if-takes_next.ensures)
     ∙ with_first _ _ _ (sym c.option_part.ensures)
 
-pub returns : goal.returns
-returns c =
+pub returns-clause-part : goal.returns-clause-part
+returns-clause-part c =
     let alone : (takes_next (options_by c.args.options.now) c.word-word.result.now ≡ false)
     ⊎ (length c.args.words.now ≤ c.pass_end_mark.new.cursor.at + 1) =
     elim c.else-cursor-count-2.branch [
