@@ -1,0 +1,5 @@
+@x
+@p program pl(pool,output);
+@y
+@p program listpool(pool,output);
+@z
