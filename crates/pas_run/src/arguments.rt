@@ -36,11 +36,11 @@ impl<P: Port> Machine<P> {
     #[cycle(running)]
     pub(crate) fn arguments(
         &mut self,
-        scene: Scene<'_>,
+        scene: &Scene<'_>,
         passed: &Items<Passed>,
         levels: u32,
     ) -> Result<Items<Argument>, Stop>
-        ensures does { Passes scene.entry (passed_views passed.now) self.old self.new result }
+        ensures does { Passes scene.now (passed_views passed.now) self.old self.new result }
         ensures cause { CountFailures (is_port_failed result) self.old.files self.new.files }
     {
         let mut arguments = Items::new(self.alloc);
@@ -53,8 +53,8 @@ impl<P: Port> Machine<P> {
 
     // An argument.
     #[cycle(running)]
-    fn argument(&mut self, scene: Scene<'_>, passed: &Passed, levels: u32) -> Result<Argument, Stop>
-        ensures does { PassesOne scene.entry (passed_view passed.now) self.old self.new result }
+    fn argument(&mut self, scene: &Scene<'_>, passed: &Passed, levels: u32) -> Result<Argument, Stop>
+        ensures does { PassesOne scene.now (passed_view passed.now) self.old self.new result }
         ensures cause { CountFailures (is_port_failed result) self.old.files self.new.files }
     {
         match passed {
@@ -69,12 +69,12 @@ impl<P: Port> Machine<P> {
     #[cycle(running)]
     fn value_argument(
         &mut self,
-        scene: Scene<'_>,
+        scene: &Scene<'_>,
         pas_type: PasType,
         value: &Value,
         levels: u32,
     ) -> Result<Argument, Stop>
-        ensures does { PassesOne scene.entry (typed.value (type_view pas_type) (value_view value.now)) self.old
+        ensures does { PassesOne scene.now (typed.value (type_view pas_type) (value_view value.now)) self.old
             self.new result }
         ensures cause { CountFailures (is_port_failed result) self.old.files self.new.files }
     {
@@ -89,13 +89,13 @@ impl<P: Port> Machine<P> {
     #[cycle(running)]
     fn number_argument(
         &mut self,
-        scene: Scene<'_>,
+        scene: &Scene<'_>,
         pas_type: PasType,
         value: &Value,
         levels: u32,
     ) -> Result<Argument, Stop>
-        ensures does { IsOrdinal (program_view scene.entry.program.now).types (type_view pas_type)
-            → PassesOne scene.entry (typed.value (type_view pas_type) (value_view value.now)) self.old self.new result }
+        ensures does { IsOrdinal (program_view scene.now.program.now).types (type_view pas_type)
+            → PassesOne scene.now (typed.value (type_view pas_type) (value_view value.now)) self.old self.new result }
         ensures cause { CountFailures (is_port_failed result) self.old.files self.new.files }
     {
         let found = self.number(scene, value, levels)?;
@@ -107,13 +107,13 @@ impl<P: Port> Machine<P> {
     #[cycle(running)]
     fn whole_argument(
         &mut self,
-        scene: Scene<'_>,
+        scene: &Scene<'_>,
         pas_type: PasType,
         value: &Value,
         levels: u32,
     ) -> Result<Argument, Stop>
-        ensures does { IsWhole (program_view scene.entry.program.now).types (type_view pas_type)
-            → PassesOne scene.entry (typed.value (type_view pas_type) (value_view value.now)) self.old self.new result }
+        ensures does { IsWhole (program_view scene.now.program.now).types (type_view pas_type)
+            → PassesOne scene.now (typed.value (type_view pas_type) (value_view value.now)) self.old self.new result }
         ensures cause { CountFailures (is_port_failed result) self.old.files self.new.files }
     {
         let copied = self.copy_of(scene, value, levels)?;
@@ -124,11 +124,11 @@ impl<P: Port> Machine<P> {
     #[cycle(running)]
     fn place_argument(
         &mut self,
-        scene: Scene<'_>,
+        scene: &Scene<'_>,
         place: &Place,
         levels: u32,
     ) -> Result<Argument, Stop>
-        ensures does { PassesOne scene.entry (typed.reference (place_view place.now)) self.old self.new result }
+        ensures does { PassesOne scene.now (typed.reference (place_view place.now)) self.old self.new result }
         ensures cause { CountFailures (is_port_failed result) self.old.files self.new.files }
     {
         let behind = self.part_at(scene, place, levels)?;

@@ -35,11 +35,11 @@ impl<P: Port> Machine<P> {
     #[cycle(running)]
     pub(crate) fn function_result(
         &mut self,
-        scene: Scene<'_>,
+        scene: &Scene<'_>,
         call: &Call,
         levels: u32,
     ) -> Result<i32, Stop>
-        ensures does { Evaluates scene.entry (call_view call.now) self.old self.new result }
+        ensures does { Evaluates scene.now (call_view call.now) self.old self.new result }
         ensures cause { CountFailures (is_port_failed result) self.old.files self.new.files }
     {
         let arguments = self.arguments(scene, &call.passed, levels)?;
@@ -51,12 +51,12 @@ impl<P: Port> Machine<P> {
     #[cycle(running)]
     pub(crate) fn call_procedure(
         &mut self,
-        scene: Scene<'_>,
+        scene: &Scene<'_>,
         routine: u32,
         passed: &Items<Passed>,
         levels: u32,
     ) -> Result<(), Stop>
-        ensures does { Calls scene.entry routine (passed_views passed.now) self.old self.new result }
+        ensures does { Calls scene.now routine (passed_views passed.now) self.old self.new result }
         ensures cause { CountFailures (is_port_failed result) self.old.files self.new.files }
     {
         let arguments = self.arguments(scene, passed, levels)?;
@@ -69,15 +69,15 @@ impl<P: Port> Machine<P> {
     #[cycle(running)]
     fn call(
         &mut self,
-        scene: Scene<'_>,
+        scene: &Scene<'_>,
         routine: u32,
         arguments: &Items<Argument>,
         levels: u32,
     ) -> Result<Cell, Stop>
-        ensures does { Begins scene.entry
-            (λ heading. slice_get (program_view scene.entry.program.now).headings routine ≡ Some heading) arguments.now
+        ensures does { Begins scene.now
+            (λ heading. slice_get (program_view scene.now.program.now).headings routine ≡ Some heading) arguments.now
             (λ variables kinds heading values. (most : ℕ) → Does most kinds kinds (IsResult heading)
-            (call_of (program_view scene.entry.program.now) most routine values) self.old self.new result) }
+            (call_of (program_view scene.now.program.now) most routine values) self.old self.new result) }
         ensures cause { CountFailures (is_port_failed result) self.old.files self.new.files }
     {
         self.take_step()?;
@@ -89,16 +89,16 @@ impl<P: Port> Machine<P> {
     #[cycle(running)]
     fn body_run(
         &mut self,
-        scene: Scene<'_>,
+        scene: &Scene<'_>,
         routine: u32,
         arguments: &Items<Argument>,
         levels: u32,
     ) -> Result<Cell, Stop>
-        ensures does { Begins scene.entry
-            (λ heading. slice_get (program_view scene.entry.program.now).headings routine ≡ Some heading) arguments.now
+        ensures does { Begins scene.now
+            (λ heading. slice_get (program_view scene.now.program.now).headings routine ≡ Some heading) arguments.now
             (λ variables kinds heading values. (most : ℕ) → Does most kinds kinds (IsResult heading)
-            (body_run_of (program_view scene.entry.program.now) most
-            (meaning.body_of (program_view scene.entry.program.now) routine) values) self.old self.new result) }
+            (body_run_of (program_view scene.now.program.now) most
+            (meaning.body_of (program_view scene.now.program.now) routine) values) self.old self.new result) }
         ensures cause { CountFailures (is_port_failed result) self.old.files self.new.files }
     {
         let Some(number) = scene.layouts.routines.get(routine as usize) else {
@@ -117,18 +117,18 @@ impl<P: Port> Machine<P> {
     #[cycle(running)]
     fn run_body(
         &mut self,
-        scene: Scene<'_>,
+        scene: &Scene<'_>,
         layout: &Layout,
         body: &Body,
         arguments: &Items<Argument>,
         levels: u32,
     ) -> Result<Cell, Stop>
-        ensures does { Begins scene.entry
-            (λ heading. IsRoutine (program_view scene.entry.program.now) heading layout.now
-            (body_view scene.entry.program.now.spellings body.now)) arguments.now
+        ensures does { Begins scene.now
+            (λ heading. IsRoutine (program_view scene.now.program.now) heading layout.now
+            (body_view scene.now.program.now.spellings body.now)) arguments.now
             (λ variables kinds heading values. (most : ℕ) → Does most kinds kinds (IsResult heading)
-            (body_run_of (program_view scene.entry.program.now) most
-            (Some (body_view scene.entry.program.now.spellings body.now)) values) self.old self.new result) }
+            (body_run_of (program_view scene.now.program.now) most
+            (Some (body_view scene.now.program.now.spellings body.now)) values) self.old self.new result) }
         ensures cause { CountFailures (is_port_failed result) self.old.files self.new.files }
     {
         self.open(scene, layout, body, arguments)?;
@@ -137,26 +137,26 @@ impl<P: Port> Machine<P> {
             layouts: scene.layouts,
             locals: layout,
         };
-        self.compound(inside, &body.statements, levels)?;
+        self.compound(&inside, &body.statements, levels)?;
         Ok(self.close(layout.cells))
     }
 
     // An activation opens: the variable parameters mean what their arguments mean now.
     fn open(
         &mut self,
-        scene: Scene<'_>,
+        scene: &Scene<'_>,
         layout: &Layout,
         body: &Body,
         arguments: &Items<Argument>,
     ) -> Result<(), Stop>
-        ensures does { Begins scene.entry
-            (λ heading. IsRoutine (program_view scene.entry.program.now) heading layout.now
-            (body_view scene.entry.program.now.spellings body.now)) arguments.now
+        ensures does { Begins scene.now
+            (λ heading. IsRoutine (program_view scene.now.program.now) heading layout.now
+            (body_view scene.now.program.now.spellings body.now)) arguments.now
             (λ variables kinds heading values. (most : ℕ) → Does most kinds
-            (kinds_inside (program_view scene.entry.program.now) kinds
-            (body_view scene.entry.program.now.spellings body.now)) Any
-            (change (λ found. store.opened (meaning.cells_for (program_view scene.entry.program.now)
-            (body_view scene.entry.program.now.spellings body.now) values found) found)) self.old self.new result) }
+            (kinds_inside (program_view scene.now.program.now) kinds
+            (body_view scene.now.program.now.spellings body.now)) Any
+            (change (λ found. store.opened (meaning.cells_for (program_view scene.now.program.now)
+            (body_view scene.now.program.now.spellings body.now) values found) found)) self.old self.new result) }
         ensures quiet { is_port_failed result ≡ false }
         ensures files { self.new.files ≡ self.old.files }
     {
@@ -168,13 +168,13 @@ impl<P: Port> Machine<P> {
     // The cells of arguments.
     fn argument_cells(
         &self,
-        scene: Scene<'_>,
+        scene: &Scene<'_>,
         arguments: &Items<Argument>,
     ) -> Result<Vec<Cell>, Stop>
         ensures found { (variables : List typed.Variable) (result' : Option types.PasType) (kinds : Kinds)
-            → IsScene scene.entry variables result' kinds → (parameters : List typed.Variable)
+            → IsScene scene.now variables result' kinds → (parameters : List typed.Variable)
             (values : List meaning.Argument)
-            → AreGiven (program_view scene.entry.program.now) variables parameters arguments.now values
+            → AreGiven (program_view scene.now.program.now) variables parameters arguments.now values
             → (ports : List PortState) (run : Run store.Store) → IsRun kinds ports self.now run
             → IsFound (λ found. found.items ≡ flat_row kinds (map (meaning.cell_of run.store) values)) result }
         ensures quiet { is_port_failed result ≡ false }
@@ -189,13 +189,13 @@ impl<P: Port> Machine<P> {
     // The cells of an argument come behind others.
     fn push_argument(
         &self,
-        scene: Scene<'_>,
+        scene: &Scene<'_>,
         argument: &Argument,
         cells: &mut Vec<Cell>,
     ) -> Result<(), Stop>
         ensures found { (variables : List typed.Variable) (result' : Option types.PasType) (kinds : Kinds)
-            → IsScene scene.entry variables result' kinds → (parameter : typed.Variable) (value : meaning.Argument)
-            → IsGiven (program_view scene.entry.program.now) variables parameter argument.now value
+            → IsScene scene.now variables result' kinds → (parameter : typed.Variable) (value : meaning.Argument)
+            → IsGiven (program_view scene.now.program.now) variables parameter argument.now value
             → (ports : List PortState) (run : Run store.Store) → IsRun kinds ports self.now run
             → IsFound (λ _. cells.new.items ≡ cells.old.items ++ flat_cell kinds (meaning.cell_of run.store value))
             result }
@@ -240,9 +240,9 @@ fn along(at: Address, behind: u32) -> Result<Address, Stop>
 }
 
 // How many cells an activation has: those of the variables, and that of the result of a function.
-fn cells_in(scene: Scene<'_>, layout: &Layout, body: &Body) -> usize
+fn cells_in(scene: &Scene<'_>, layout: &Layout, body: &Body) -> usize
     ensures { result ≡ layout.now.cells + length (result_kinds
-        (slice_get (program_view scene.entry.program.now).headings body.now.routine)) }
+        (slice_get (program_view scene.now.program.now).headings body.now.routine)) }
 {
     let cells = layout.cells as usize;
     match scene.program.headings.get(body.routine as usize) {

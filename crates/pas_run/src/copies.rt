@@ -33,12 +33,12 @@ impl<P: Port> Machine<P> {
     #[cycle(running)]
     pub(crate) fn assign_whole(
         &mut self,
-        scene: Scene<'_>,
+        scene: &Scene<'_>,
         place: &Place,
         right: &Value,
         levels: u32,
     ) -> Result<(), Stop>
-        ensures does { AssignsWhole scene.entry (place_view place.now) (value_view right.now) self.old self.new result }
+        ensures does { AssignsWhole scene.now (place_view place.now) (value_view right.now) self.old self.new result }
         ensures cause { CountFailures (is_port_failed result) self.old.files self.new.files }
     {
         let copied = self.copy_of(scene, right, levels)?;
@@ -52,11 +52,11 @@ impl<P: Port> Machine<P> {
     #[cycle(running)]
     pub(crate) fn copy_of(
         &mut self,
-        scene: Scene<'_>,
+        scene: &Scene<'_>,
         value: &Value,
         levels: u32,
     ) -> Result<Items<Cell>, Stop>
-        ensures does { Copies scene.entry (value_view value.now) self.old self.new result }
+        ensures does { Copies scene.now (value_view value.now) self.old self.new result }
         ensures cause { CountFailures (is_port_failed result) self.old.files self.new.files }
     {
         let taken = COPY;
@@ -75,11 +75,11 @@ impl<P: Port> Machine<P> {
     #[cycle(running)]
     fn copy_of_place(
         &mut self,
-        scene: Scene<'_>,
+        scene: &Scene<'_>,
         place: &Place,
         levels: u32,
     ) -> Result<Items<Cell>, Stop>
-        ensures does { Copies scene.entry (typed.read (place_view place.now)) self.old self.new result }
+        ensures does { Copies scene.now (typed.read (place_view place.now)) self.old self.new result }
         ensures cause { CountFailures (is_port_failed result) self.old.files self.new.files }
     {
         let behind = self.part_at(scene, place, levels)?;
@@ -89,16 +89,16 @@ impl<P: Port> Machine<P> {
     // The cells of a part of a variable.
     fn copy_part(
         &self,
-        scene: Scene<'_>,
+        scene: &Scene<'_>,
         pas_type: PasType,
         slot: Slot,
         behind: u32,
     ) -> Result<Items<Cell>, Stop>
         ensures found { (variables : List typed.Variable) (result' : Option types.PasType) (kinds : Kinds)
-            → IsScene scene.entry variables result' kinds → (place : meaning.Spot)
-            → IsBehind (program_view scene.entry.program.now) variables slot (type_view pas_type) behind place
+            → IsScene scene.now variables result' kinds → (place : meaning.Spot)
+            → IsBehind (program_view scene.now.program.now) variables slot (type_view pas_type) behind place
             → (ports : List PortState) (run : Run store.Store) → IsRun kinds ports self.now run
-            → IsFound (λ found. AreCells (program_view scene.entry.program.now).types (type_view pas_type) found
+            → IsFound (λ found. AreCells (program_view scene.now.program.now).types (type_view pas_type) found
             (held_at place run.store)) result }
         ensures quiet { is_port_failed result ≡ false }
     {
@@ -108,11 +108,11 @@ impl<P: Port> Machine<P> {
     }
 
     // Cells are stored in a part of a variable.
-    fn store_copy(&mut self, scene: Scene<'_>, slot: Slot, behind: u32, cells: &[Cell])
+    fn store_copy(&mut self, scene: &Scene<'_>, slot: Slot, behind: u32, cells: &[Cell])
         ensures does { (variables : List typed.Variable) (result' : Option types.PasType) (kinds : Kinds)
-            → IsScene scene.entry variables result' kinds → (type : types.PasType) (place : meaning.Spot)
-            → IsBehind (program_view scene.entry.program.now) variables slot type behind place
-            → (datum : store.Datum) → IsOfType (program_view scene.entry.program.now).types type datum
+            → IsScene scene.now variables result' kinds → (type : types.PasType) (place : meaning.Spot)
+            → IsBehind (program_view scene.now.program.now) variables slot type behind place
+            → (datum : store.Datum) → IsOfType (program_view scene.now.program.now).types type datum
             → cells.now ≡ datum_cells datum → (most : ℕ)
             → Does most kinds kinds Any (change (stored_at (meaning.slot_of place) (meaning.path_of place) datum))
             self.old self.new (Ok (tt {0})) }
@@ -124,8 +124,8 @@ impl<P: Port> Machine<P> {
 }
 
 // How many cells a variable of a type has, unless they are more than a machine has.
-fn cells_of(scene: Scene<'_>, pas_type: PasType) -> Result<u32, Stop>
-    ensures count { IsCount (types.cells_of (program_view scene.entry.program.now).types (type_view pas_type)) result }
+fn cells_of(scene: &Scene<'_>, pas_type: PasType) -> Result<u32, Stop>
+    ensures count { IsCount (types.cells_of (program_view scene.now.program.now).types (type_view pas_type)) result }
     ensures quiet { is_port_failed result ≡ false }
 {
     behind_cells(0, scene.program.types.cells_of(pas_type))

@@ -48,8 +48,8 @@ impl Layout {
 
 impl<'a> Scene<'a> {
     // The layout of the variables of the program, or of the routine.
-    pub(crate) fn layout_of(self, home: Home) -> &'a Layout
-        ensures { result.now ≡ layout_by (home_view home) self.entry.layouts.now.globals self.entry.locals.now }
+    pub(crate) fn layout_of(&self, home: Home) -> &'a Layout
+        ensures { result.now ≡ layout_by (home_view home) self.now.layouts.now.globals self.now.locals.now }
     {
         match home {
             Home::Global => &self.layouts.globals,

@@ -54,11 +54,11 @@ impl<P: Port> Machine<P> {
     #[cycle(running)]
     pub(crate) fn compound(
         &mut self,
-        scene: Scene<'_>,
+        scene: &Scene<'_>,
         list: &Statements,
         levels: u32,
     ) -> Result<Flow, Stop>
-        ensures does { Runs scene.entry (typed.compound (statements_view scene.entry.program.now.spellings list.now))
+        ensures does { Runs scene.now (typed.compound (statements_view scene.now.program.now.spellings list.now))
             self.old self.new result }
         ensures cause { CountFailures (is_port_failed result) self.old.files self.new.files }
     {
@@ -69,11 +69,11 @@ impl<P: Port> Machine<P> {
     #[cycle(running)]
     fn list_caught(
         &mut self,
-        scene: Scene<'_>,
+        scene: &Scene<'_>,
         list: &[Labelled],
         levels: u32,
     ) -> Result<Flow, Stop>
-        ensures does { Runs scene.entry (typed.compound (statements_view scene.entry.program.now.spellings list.now))
+        ensures does { Runs scene.now (typed.compound (statements_view scene.now.program.now.spellings list.now))
             self.old self.new result }
         ensures cause { CountFailures (is_port_failed result) self.old.files self.new.files }
     {
@@ -92,12 +92,12 @@ impl<P: Port> Machine<P> {
     #[cycle(running)]
     fn list(
         &mut self,
-        scene: Scene<'_>,
+        scene: &Scene<'_>,
         list: &[Labelled],
         from: Option<u32>,
         levels: u32,
     ) -> Result<Flow, Stop>
-        ensures does { RunsList scene.entry from (statements_view scene.entry.program.now.spellings list.now)
+        ensures does { RunsList scene.now from (statements_view scene.now.program.now.spellings list.now)
             self.old self.new result }
         ensures cause { CountFailures (is_port_failed result) self.old.files self.new.files }
     {
@@ -106,8 +106,8 @@ impl<P: Port> Machine<P> {
 
     // The statements of a list in order.
     #[cycle(running)]
-    fn in_order(&mut self, scene: Scene<'_>, list: &[Labelled], levels: u32) -> Result<Flow, Stop>
-        ensures does { RunsList scene.entry None (statements_view scene.entry.program.now.spellings list.now)
+    fn in_order(&mut self, scene: &Scene<'_>, list: &[Labelled], levels: u32) -> Result<Flow, Stop>
+        ensures does { RunsList scene.now None (statements_view scene.now.program.now.spellings list.now)
             self.old self.new result }
         ensures cause { CountFailures (is_port_failed result) self.old.files self.new.files }
     {
@@ -175,13 +175,13 @@ impl<P: Port> Machine<P> {
     #[cycle(running)]
     pub(crate) fn while_loop(
         &mut self,
-        scene: Scene<'_>,
+        scene: &Scene<'_>,
         test: &Value,
         list: &Statements,
         levels: u32,
     ) -> Result<Flow, Stop>
-        ensures does { Runs scene.entry (typed.while (value_view test.now)
-            (statements_view scene.entry.program.now.spellings list.now)) self.old self.new result }
+        ensures does { Runs scene.now (typed.while (value_view test.now)
+            (statements_view scene.now.program.now.spellings list.now)) self.old self.new result }
         ensures cause { CountFailures (is_port_failed result) self.old.files self.new.files }
     {
         self.looped(scene, Loop::While(test), list.as_slice(), levels)
@@ -191,12 +191,12 @@ impl<P: Port> Machine<P> {
     #[cycle(running)]
     pub(crate) fn repeat_loop(
         &mut self,
-        scene: Scene<'_>,
+        scene: &Scene<'_>,
         list: &Statements,
         test: &Value,
         levels: u32,
     ) -> Result<Flow, Stop>
-        ensures does { Runs scene.entry (typed.repeat (statements_view scene.entry.program.now.spellings list.now)
+        ensures does { Runs scene.now (typed.repeat (statements_view scene.now.program.now.spellings list.now)
             (value_view test.now)) self.old self.new result }
         ensures cause { CountFailures (is_port_failed result) self.old.files self.new.files }
     {
@@ -207,13 +207,13 @@ impl<P: Port> Machine<P> {
     #[cycle(running)]
     fn turns(
         &mut self,
-        scene: Scene<'_>,
+        scene: &Scene<'_>,
         kind: Loop<'_>,
         list: &[Labelled],
         levels: u32,
     ) -> Result<Flow, Stop>
-        ensures does { RunsFrom scene.entry (turning kind.entry)
-            (loop_view kind.entry (statements_view scene.entry.program.now.spellings list.now)) self.old self.new
+        ensures does { RunsFrom scene.now (turning kind.entry)
+            (loop_view kind.entry (statements_view scene.now.program.now.spellings list.now)) self.old self.new
             result }
         ensures cause { CountFailures (is_port_failed result) self.old.files self.new.files }
     {
@@ -232,13 +232,13 @@ impl<P: Port> Machine<P> {
     #[cycle(running)]
     fn turn(
         &mut self,
-        scene: Scene<'_>,
+        scene: &Scene<'_>,
         kind: Loop<'_>,
         list: &[Labelled],
         from: Option<u32>,
         levels: u32,
     ) -> Result<Flow, Stop>
-        ensures does { Turns scene.entry kind.entry from (statements_view scene.entry.program.now.spellings list.now)
+        ensures does { Turns scene.now kind.entry from (statements_view scene.now.program.now.spellings list.now)
             self.old
             self.new result }
         ensures cause { CountFailures (is_port_failed result) self.old.files self.new.files }
@@ -254,14 +254,14 @@ impl<P: Port> Machine<P> {
     #[cycle(running)]
     fn looped(
         &mut self,
-        scene: Scene<'_>,
+        scene: &Scene<'_>,
         kind: Loop<'_>,
         list: &[Labelled],
         levels: u32,
     ) -> Result<Flow, Stop>
-        ensures does { RunsLoop scene.entry kind.entry (statements_view scene.entry.program.now.spellings list.now)
-            (λ most. stepped (loop_of (program_view scene.entry.program.now) most kind.entry
-            (statements_view scene.entry.program.now.spellings list.now))) self.old self.new result }
+        ensures does { RunsLoop scene.now kind.entry (statements_view scene.now.program.now.spellings list.now)
+            (λ most. stepped (loop_of (program_view scene.now.program.now) most kind.entry
+            (statements_view scene.now.program.now.spellings list.now))) self.old self.new result }
         ensures cause { CountFailures (is_port_failed result) self.old.files self.new.files }
     {
         self.take_step()?;
@@ -272,13 +272,13 @@ impl<P: Port> Machine<P> {
     #[cycle(running)]
     pub(crate) fn for_loop(
         &mut self,
-        scene: Scene<'_>,
+        scene: &Scene<'_>,
         head: &Counted,
         list: &Statements,
         levels: u32,
     ) -> Result<Flow, Stop>
-        ensures does { Runs scene.entry (typed.for (slot_view head.now.slot) head.now.way (value_view head.now.first)
-            (value_view head.now.last) (statements_view scene.entry.program.now.spellings list.now)) self.old self.new
+        ensures does { Runs scene.now (typed.for (slot_view head.now.slot) head.now.way (value_view head.now.first)
+            (value_view head.now.last) (statements_view scene.now.program.now.spellings list.now)) self.old self.new
             result }
         ensures cause { CountFailures (is_port_failed result) self.old.files self.new.files }
     {
@@ -289,13 +289,13 @@ impl<P: Port> Machine<P> {
     #[cycle(running)]
     fn for_list(
         &mut self,
-        scene: Scene<'_>,
+        scene: &Scene<'_>,
         head: &Counted,
         list: &[Labelled],
         levels: u32,
     ) -> Result<Flow, Stop>
-        ensures does { Runs scene.entry (typed.for (slot_view head.now.slot) head.now.way (value_view head.now.first)
-            (value_view head.now.last) (statements_view scene.entry.program.now.spellings list.now)) self.old self.new
+        ensures does { Runs scene.now (typed.for (slot_view head.now.slot) head.now.way (value_view head.now.first)
+            (value_view head.now.last) (statements_view scene.now.program.now.spellings list.now)) self.old self.new
             result }
         ensures cause { CountFailures (is_port_failed result) self.old.files self.new.files }
     {
@@ -308,19 +308,19 @@ impl<P: Port> Machine<P> {
     #[cycle(running)]
     fn for_from(
         &mut self,
-        scene: Scene<'_>,
+        scene: &Scene<'_>,
         head: &Counted,
         first: i32,
         last: i32,
         list: &[Labelled],
         levels: u32,
     ) -> Result<Flow, Stop>
-        ensures does { RunsLoop scene.entry (Loop.For head.entry last)
-            (statements_view scene.entry.program.now.spellings list.now)
-            (λ most. for_from_of (program_view scene.entry.program.now) most (slot_view head.now.slot) head.now.way
+        ensures does { RunsLoop scene.now (Loop.For head.entry last)
+            (statements_view scene.now.program.now.spellings list.now)
+            (λ most. for_from_of (program_view scene.now.program.now) most (slot_view head.now.slot) head.now.way
             first
-            last (stepped (loop_of (program_view scene.entry.program.now) most (Loop.For head.entry last)
-            (statements_view scene.entry.program.now.spellings list.now)))) self.old self.new result }
+            last (stepped (loop_of (program_view scene.now.program.now) most (Loop.For head.entry last)
+            (statements_view scene.now.program.now.spellings list.now)))) self.old self.new result }
         ensures cause { CountFailures (is_port_failed result) self.old.files self.new.files }
     {
         if is_past(head.way, first, last) {
@@ -335,18 +335,18 @@ impl<P: Port> Machine<P> {
     #[cycle(running)]
     fn for_between(
         &mut self,
-        scene: Scene<'_>,
+        scene: &Scene<'_>,
         head: &Counted,
         first: i32,
         last: i32,
         list: &[Labelled],
         levels: u32,
     ) -> Result<Flow, Stop>
-        ensures does { RunsLoop scene.entry (Loop.For head.entry last)
-            (statements_view scene.entry.program.now.spellings list.now)
-            (λ most. between_of (program_view scene.entry.program.now) (slot_view head.now.slot) first last
-            (stepped (loop_of (program_view scene.entry.program.now) most (Loop.For head.entry last)
-            (statements_view scene.entry.program.now.spellings list.now)))) self.old self.new result }
+        ensures does { RunsLoop scene.now (Loop.For head.entry last)
+            (statements_view scene.now.program.now.spellings list.now)
+            (λ most. between_of (program_view scene.now.program.now) (slot_view head.now.slot) first last
+            (stepped (loop_of (program_view scene.now.program.now) most (Loop.For head.entry last)
+            (statements_view scene.now.program.now.spellings list.now)))) self.old self.new result }
         ensures cause { CountFailures (is_port_failed result) self.old.files self.new.files }
     {
         let low = fits(scene, head.slot.pas_type, first)?;
@@ -359,16 +359,16 @@ impl<P: Port> Machine<P> {
     #[cycle(running)]
     fn for_turns(
         &mut self,
-        scene: Scene<'_>,
+        scene: &Scene<'_>,
         head: &Counted,
         last: i32,
         list: &[Labelled],
         levels: u32,
     ) -> Result<Flow, Stop>
-        ensures does { RunsLoop scene.entry (Loop.For head.entry last)
-            (statements_view scene.entry.program.now.spellings list.now)
-            (λ most. forgetting (slot_view head.now.slot) (stepped (loop_of (program_view scene.entry.program.now)
-            most (Loop.For head.entry last) (statements_view scene.entry.program.now.spellings list.now)))) self.old
+        ensures does { RunsLoop scene.now (Loop.For head.entry last)
+            (statements_view scene.now.program.now.spellings list.now)
+            (λ most. forgetting (slot_view head.now.slot) (stepped (loop_of (program_view scene.now.program.now)
+            most (Loop.For head.entry last) (statements_view scene.now.program.now.spellings list.now)))) self.old
             self.new
             result }
         ensures cause { CountFailures (is_port_failed result) self.old.files self.new.files }
@@ -384,11 +384,11 @@ impl<P: Port> Machine<P> {
     }
 
     // A variable becomes undefined.
-    fn forget(&mut self, scene: Scene<'_>, slot: Slot)
+    fn forget(&mut self, scene: &Scene<'_>, slot: Slot)
         ensures does { (variables : List typed.Variable) (result' : Option types.PasType) (kinds : Kinds)
-            → IsScene scene.entry variables result' kinds
-            → IsLawfulSlot (program_view scene.entry.program.now) variables (slot_view slot)
-            → IsOrdinal (program_view scene.entry.program.now).types (slot_view slot).type → (most : ℕ)
+            → IsScene scene.now variables result' kinds
+            → IsLawfulSlot (program_view scene.now.program.now) variables (slot_view slot)
+            → IsOrdinal (program_view scene.now.program.now).types (slot_view slot).type → (most : ℕ)
             → Does most kinds kinds Any (change (meaning.forget (slot_view slot))) self.old self.new (Ok (tt {0})) }
         ensures files { self.new.files ≡ self.old.files }
     {
@@ -399,17 +399,17 @@ impl<P: Port> Machine<P> {
     #[cycle(running)]
     fn while_turn(
         &mut self,
-        scene: Scene<'_>,
+        scene: &Scene<'_>,
         test: &Value,
         list: &[Labelled],
         from: Option<u32>,
         levels: u32,
     ) -> Result<Flow, Stop>
-        ensures does { RunsBy scene.entry (λ variables result'. IsLawfulNumber (program_view scene.entry.program.now)
-            variables (value_view test.now) × AreLawful (program_view scene.entry.program.now) variables result'
-            (statements_view scene.entry.program.now.spellings list.now)) IsFlow
-            (λ most. while_turn_of (program_view scene.entry.program.now) most (value_view test.now) from
-            (statements_view scene.entry.program.now.spellings list.now)) self.old self.new result }
+        ensures does { RunsBy scene.now (λ variables result'. IsLawfulNumber (program_view scene.now.program.now)
+            variables (value_view test.now) × AreLawful (program_view scene.now.program.now) variables result'
+            (statements_view scene.now.program.now.spellings list.now)) IsFlow
+            (λ most. while_turn_of (program_view scene.now.program.now) most (value_view test.now) from
+            (statements_view scene.now.program.now.spellings list.now)) self.old self.new result }
         ensures cause { CountFailures (is_port_failed result) self.old.files self.new.files }
     {
         match from {
@@ -422,16 +422,16 @@ impl<P: Port> Machine<P> {
     #[cycle(running)]
     fn tested_turn(
         &mut self,
-        scene: Scene<'_>,
+        scene: &Scene<'_>,
         test: &Value,
         list: &[Labelled],
         levels: u32,
     ) -> Result<Flow, Stop>
-        ensures does { RunsBy scene.entry (λ variables result'. IsLawfulNumber (program_view scene.entry.program.now)
-            variables (value_view test.now) × AreLawful (program_view scene.entry.program.now) variables result'
-            (statements_view scene.entry.program.now.spellings list.now)) IsFlow
-            (λ most. while_turn_of (program_view scene.entry.program.now) most (value_view test.now) None
-            (statements_view scene.entry.program.now.spellings list.now)) self.old self.new result }
+        ensures does { RunsBy scene.now (λ variables result'. IsLawfulNumber (program_view scene.now.program.now)
+            variables (value_view test.now) × AreLawful (program_view scene.now.program.now) variables result'
+            (statements_view scene.now.program.now.spellings list.now)) IsFlow
+            (λ most. while_turn_of (program_view scene.now.program.now) most (value_view test.now) None
+            (statements_view scene.now.program.now.spellings list.now)) self.old self.new result }
         ensures cause { CountFailures (is_port_failed result) self.old.files self.new.files }
     {
         let holds = self.truth(scene, test, levels)?;
@@ -446,17 +446,17 @@ impl<P: Port> Machine<P> {
     #[cycle(running)]
     fn repeat_turn(
         &mut self,
-        scene: Scene<'_>,
+        scene: &Scene<'_>,
         test: &Value,
         list: &[Labelled],
         from: Option<u32>,
         levels: u32,
     ) -> Result<Flow, Stop>
-        ensures does { RunsBy scene.entry (λ variables result'. AreLawful (program_view scene.entry.program.now)
-            variables result' (statements_view scene.entry.program.now.spellings list.now)
-            × IsLawfulNumber (program_view scene.entry.program.now) variables (value_view test.now)) IsFlow
-            (λ most. repeat_turn_of (program_view scene.entry.program.now) most (value_view test.now) from
-            (statements_view scene.entry.program.now.spellings list.now)) self.old self.new result }
+        ensures does { RunsBy scene.now (λ variables result'. AreLawful (program_view scene.now.program.now)
+            variables result' (statements_view scene.now.program.now.spellings list.now)
+            × IsLawfulNumber (program_view scene.now.program.now) variables (value_view test.now)) IsFlow
+            (λ most. repeat_turn_of (program_view scene.now.program.now) most (value_view test.now) from
+            (statements_view scene.now.program.now.spellings list.now)) self.old self.new result }
         ensures cause { CountFailures (is_port_failed result) self.old.files self.new.files }
     {
         let flow = self.list(scene, list, from, levels)?;
@@ -468,10 +468,10 @@ impl<P: Port> Machine<P> {
 
     // Behind a turn of a `repeat`: whether it was the last one.
     #[cycle(running)]
-    fn until(&mut self, scene: Scene<'_>, test: &Value, levels: u32) -> Result<Flow, Stop>
-        ensures does { RunsBy scene.entry (λ variables result'. IsLawfulNumber (program_view scene.entry.program.now)
+    fn until(&mut self, scene: &Scene<'_>, test: &Value, levels: u32) -> Result<Flow, Stop>
+        ensures does { RunsBy scene.now (λ variables result'. IsLawfulNumber (program_view scene.now.program.now)
             variables (value_view test.now)) IsFlow
-            (λ most. until_of (program_view scene.entry.program.now) most (value_view test.now)) self.old self.new
+            (λ most. until_of (program_view scene.now.program.now) most (value_view test.now)) self.old self.new
             result }
         ensures cause { CountFailures (is_port_failed result) self.old.files self.new.files }
     {
@@ -487,20 +487,20 @@ impl<P: Port> Machine<P> {
     #[cycle(running)]
     fn for_turn(
         &mut self,
-        scene: Scene<'_>,
+        scene: &Scene<'_>,
         head: &Counted,
         last: i32,
         list: &[Labelled],
         from: Option<u32>,
         levels: u32,
     ) -> Result<Flow, Stop>
-        ensures does { RunsBy scene.entry (λ variables result'. IsLawfulSlot (program_view scene.entry.program.now)
+        ensures does { RunsBy scene.now (λ variables result'. IsLawfulSlot (program_view scene.now.program.now)
             variables (slot_view head.now.slot)
-            × IsOrdinal (program_view scene.entry.program.now).types (slot_view head.now.slot).type
-            × AreLawful (program_view scene.entry.program.now) variables result'
-            (statements_view scene.entry.program.now.spellings list.now)) IsFlow
-            (λ most. for_turn_of (program_view scene.entry.program.now) most (slot_view head.now.slot) head.now.way last
-            from (statements_view scene.entry.program.now.spellings list.now)) self.old self.new result }
+            × IsOrdinal (program_view scene.now.program.now).types (slot_view head.now.slot).type
+            × AreLawful (program_view scene.now.program.now) variables result'
+            (statements_view scene.now.program.now.spellings list.now)) IsFlow
+            (λ most. for_turn_of (program_view scene.now.program.now) most (slot_view head.now.slot) head.now.way last
+            from (statements_view scene.now.program.now.spellings list.now)) self.old self.new result }
         ensures cause { CountFailures (is_port_failed result) self.old.files self.new.files }
     {
         let flow = self.list(scene, list, from, levels)?;
@@ -511,10 +511,10 @@ impl<P: Port> Machine<P> {
     }
 
     // The variable of a `for` takes its next value, unless it has the last one.
-    fn counted(&mut self, scene: Scene<'_>, slot: Slot, way: Way, last: i32) -> Result<Flow, Stop>
-        ensures does { RunsBy scene.entry (λ variables result'. IsLawfulSlot (program_view scene.entry.program.now)
-            variables (slot_view slot) × IsOrdinal (program_view scene.entry.program.now).types (slot_view slot).type)
-            IsFlow (λ most. counted_of (program_view scene.entry.program.now) most (slot_view slot) way last) self.old
+    fn counted(&mut self, scene: &Scene<'_>, slot: Slot, way: Way, last: i32) -> Result<Flow, Stop>
+        ensures does { RunsBy scene.now (λ variables result'. IsLawfulSlot (program_view scene.now.program.now)
+            variables (slot_view slot) × IsOrdinal (program_view scene.now.program.now).types (slot_view slot).type)
+            IsFlow (λ most. counted_of (program_view scene.now.program.now) most (slot_view slot) way last) self.old
             self.new result }
         ensures cause { CountFailures (is_port_failed result) self.old.files self.new.files }
     {
@@ -529,14 +529,14 @@ impl<P: Port> Machine<P> {
     // The variable of a `for` takes the value behind this one.
     fn next_value_stored(
         &mut self,
-        scene: Scene<'_>,
+        scene: &Scene<'_>,
         slot: Slot,
         way: Way,
         found: i32,
     ) -> Result<Flow, Stop>
-        ensures does { RunsBy scene.entry (λ variables result'. IsLawfulSlot (program_view scene.entry.program.now)
-            variables (slot_view slot) × IsOrdinal (program_view scene.entry.program.now).types (slot_view slot).type)
-            IsFlow (λ most. next_stored_of (program_view scene.entry.program.now) most (slot_view slot) way found)
+        ensures does { RunsBy scene.now (λ variables result'. IsLawfulSlot (program_view scene.now.program.now)
+            variables (slot_view slot) × IsOrdinal (program_view scene.now.program.now).types (slot_view slot).type)
+            IsFlow (λ most. next_stored_of (program_view scene.now.program.now) most (slot_view slot) way found)
             self.old self.new result }
         ensures cause { CountFailures (is_port_failed result) self.old.files self.new.files }
     {

@@ -173,7 +173,7 @@ impl<P: Port> Ready<P> {
             layouts: &self.layouts,
             locals: &self.main,
         };
-        let why = machine.run_to_end(scene);
+        let why = machine.run_to_end(&scene);
         machine.give_back(ports);
         why
     }

@@ -27,8 +27,8 @@ use wb_ports::Port;
 
 impl<P: Port> Machine<P> {
     // Where the cells of a variable begin.
-    fn own_address(&self, scene: Scene<'_>, slot: Slot) -> Address
-        ensures { result ≡ own_address scene.entry.layouts.now.globals scene.entry.locals.now
+    fn own_address(&self, scene: &Scene<'_>, slot: Slot) -> Address
+        ensures { result ≡ own_address scene.now.layouts.now.globals scene.now.locals.now
             (length self.now.activations - 1) (home_view slot.home) slot.number }
     {
         let activation = match slot.home {
@@ -42,10 +42,10 @@ impl<P: Port> Machine<P> {
     }
 
     // Where a variable is: a variable parameter tells it in its cell.
-    pub(crate) fn home_of(&self, scene: Scene<'_>, slot: Slot) -> Address
+    pub(crate) fn home_of(&self, scene: &Scene<'_>, slot: Slot) -> Address
         ensures { (variables : List typed.Variable) (result' : Option types.PasType) (kinds : Kinds)
-            → IsScene scene.entry variables result' kinds
-            → IsLawfulSlot (program_view scene.entry.program.now) variables (slot_view slot)
+            → IsScene scene.now variables result' kinds
+            → IsLawfulSlot (program_view scene.now.program.now) variables (slot_view slot)
             → (ports : List PortState) (run : Run store.Store) → IsRun kinds ports self.now run
             → result ≡ address_of kinds (store.home_of (slot_view slot) run.store) }
     {
@@ -54,11 +54,11 @@ impl<P: Port> Machine<P> {
     }
 
     // The number that the cell of a variable holds behind so many of its cells.
-    pub(crate) fn number_at(&self, scene: Scene<'_>, slot: Slot, behind: u32) -> Result<i32, Stop>
+    pub(crate) fn number_at(&self, scene: &Scene<'_>, slot: Slot, behind: u32) -> Result<i32, Stop>
         ensures number { (variables : List typed.Variable) (result' : Option types.PasType) (kinds : Kinds)
-            → IsScene scene.entry variables result' kinds
-            → IsLawfulSlot (program_view scene.entry.program.now) variables (slot_view slot)
-            → (path : List ℕ) → IsCell (program_view scene.entry.program.now) (slot_view slot) path behind
+            → IsScene scene.now variables result' kinds
+            → IsLawfulSlot (program_view scene.now.program.now) variables (slot_view slot)
+            → (path : List ℕ) → IsCell (program_view scene.now.program.now) (slot_view slot) path behind
             → (ports : List PortState) (run : Run store.Store) → IsRun kinds ports self.now run
             → Answers Same (store.number_at (store.along (store.home_of (slot_view slot) run.store) path) run.store)
             result }
@@ -68,10 +68,10 @@ impl<P: Port> Machine<P> {
     }
 
     // The number of the file that a variable is.
-    pub(crate) fn file_of(&self, scene: Scene<'_>, slot: Slot) -> Result<usize, Stop>
+    pub(crate) fn file_of(&self, scene: &Scene<'_>, slot: Slot) -> Result<usize, Stop>
         ensures file { (variables : List typed.Variable) (result' : Option types.PasType) (kinds : Kinds)
-            → IsScene scene.entry variables result' kinds
-            → IsFileSlot (program_view scene.entry.program.now) variables (slot_view slot)
+            → IsScene scene.now variables result' kinds
+            → IsFileSlot (program_view scene.now.program.now) variables (slot_view slot)
             → (ports : List PortState) (run : Run store.Store) → IsRun kinds ports self.now run
             → Answers Same (meaning.file_of (slot_view slot) run.store run.world) result }
         ensures there { IfOk result (λ file. file < length self.now.files) }
@@ -83,15 +83,15 @@ impl<P: Port> Machine<P> {
     // The cell of a variable behind so many of its cells gets a number, or nothing that is defined.
     pub(crate) fn set_number(
         &mut self,
-        scene: Scene<'_>,
+        scene: &Scene<'_>,
         slot: Slot,
         behind: u32,
         number: Option<i32>,
     )
         ensures does { (variables : List typed.Variable) (result' : Option types.PasType) (kinds : Kinds)
-            → IsScene scene.entry variables result' kinds
-            → IsLawfulSlot (program_view scene.entry.program.now) variables (slot_view slot)
-            → (path : List ℕ) → IsCell (program_view scene.entry.program.now) (slot_view slot) path behind
+            → IsScene scene.now variables result' kinds
+            → IsLawfulSlot (program_view scene.now.program.now) variables (slot_view slot)
+            → (path : List ℕ) → IsCell (program_view scene.now.program.now) (slot_view slot) path behind
             → (most : ℕ) (datum : store.Datum) → IsShaped one_cell datum → store.number_in datum ≡ number
             → Does most kinds kinds Any (change (stored_at (slot_view slot) path datum)) self.old self.new (Ok (tt
             {0})) }

@@ -27,11 +27,11 @@ use wb_ports::Port;
 
 impl<P: Port> Machine<P> {
     // A whole run: it ends with 0 behind its last statement.
-    pub(crate) fn whole_run(&mut self, scene: Scene<'_>, levels: u32) -> Result<(), Stop>
+    pub(crate) fn whole_run(&mut self, scene: &Scene<'_>, levels: u32) -> Result<(), Stop>
         requires { length scene.program.now.files ≤ length self.old.files }
 
-        ensures does { (kinds : Kinds) → IsScene scene.entry [] None kinds → (most : ℕ) → Does most kinds kinds Any
-            (trial.whole_run (Some CALL_LIMIT) (program_view scene.entry.program.now) most) self.old self.new result }
+        ensures does { (kinds : Kinds) → IsScene scene.now [] None kinds → (most : ℕ) → Does most kinds kinds Any
+            (trial.whole_run (Some CALL_LIMIT) (program_view scene.now.program.now) most) self.old self.new result }
         ensures cause { CountFailures (is_port_failed result) self.old.files self.new.files }
     {
         self.begin_files(scene.program)?;
@@ -41,15 +41,15 @@ impl<P: Port> Machine<P> {
 
     // A run from its start, behind which the port of each file is finished, unless a call of one failed or no memory
     // was found.
-    pub(crate) fn run_to_end(&mut self, scene: Scene<'_>) -> Stop
+    pub(crate) fn run_to_end(&mut self, scene: &Scene<'_>) -> Stop
         requires { length scene.program.now.files ≤ length self.old.files }
 
         ensures ends { (kinds : Kinds) (ports : List PortState) (given : List (List ℕ))
-            → IsScene scene.entry [] None kinds
-            → length given ≡ length (trial.parameters_of (program_view scene.entry.program.now))
-            → IsRun kinds ports self.old (run_at_start (program_view scene.entry.program.now) given self.old.steps)
+            → IsScene scene.now [] None kinds
+            → length given ≡ length (trial.parameters_of (program_view scene.now.program.now))
+            → IsRun kinds ports self.old (run_at_start (program_view scene.now.program.now) given self.old.steps)
             → EndsFinished ports given
-            (pascal_trial (program_view scene.entry.program.now) given self.old.steps) self.new result }
+            (pascal_trial (program_view scene.now.program.now) given self.old.steps) self.new result }
         ensures cause { CountFailures (is_failure result) self.old.files self.new.files }
     {
         match self.whole_run(scene, STACK) {

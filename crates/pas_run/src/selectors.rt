@@ -26,11 +26,11 @@ impl<P: Port> Machine<P> {
     #[cycle(running)]
     pub(crate) fn spot_at(
         &mut self,
-        scene: Scene<'_>,
+        scene: &Scene<'_>,
         place: &Place,
         levels: u32,
     ) -> Result<Spot, Stop>
-        ensures does { Locates scene.entry (place_view place.now) self.old self.new result }
+        ensures does { Locates scene.now (place_view place.now) self.old self.new result }
         ensures cause { CountFailures (is_port_failed result) self.old.files self.new.files }
     {
         if place.is_buffer() {
@@ -46,11 +46,11 @@ impl<P: Port> Machine<P> {
     #[cycle(running)]
     pub(crate) fn part_at(
         &mut self,
-        scene: Scene<'_>,
+        scene: &Scene<'_>,
         place: &Place,
         levels: u32,
     ) -> Result<u32, Stop>
-        ensures does { LocatesPart scene.entry place.now.slot (place_view place.now) self.old self.new result }
+        ensures does { LocatesPart scene.now place.now.slot (place_view place.now) self.old self.new result }
         ensures cause { CountFailures (is_port_failed result) self.old.files self.new.files }
     {
         let mut behind = 0;
@@ -66,13 +66,13 @@ impl<P: Port> Machine<P> {
     #[cycle(running)]
     fn behind_part(
         &mut self,
-        scene: Scene<'_>,
+        scene: &Scene<'_>,
         whole: PasType,
         behind: u32,
         part: &Part,
         levels: u32,
     ) -> Result<u32, Stop>
-        ensures does { Selects scene.entry (part_view part.now) (type_view whole) behind self.old self.new result }
+        ensures does { Selects scene.now (part_view part.now) (type_view whole) behind self.old self.new result }
         ensures cause { CountFailures (is_port_failed result) self.old.files self.new.files }
     {
         match part {
@@ -88,14 +88,14 @@ impl<P: Port> Machine<P> {
     #[cycle(running)]
     fn behind_elements(
         &mut self,
-        scene: Scene<'_>,
+        scene: &Scene<'_>,
         of_element: PasType,
         behind: u32,
         range: Range,
         index: &Value,
         levels: u32,
     ) -> Result<u32, Stop>
-        ensures does { (whole : types.PasType) → Selects scene.entry (λ place. typed.element place (range_view range)
+        ensures does { (whole : types.PasType) → Selects scene.now (λ place. typed.element place (range_view range)
             (type_view of_element) (value_view index.now)) whole behind self.old self.new result }
         ensures cause { CountFailures (is_port_failed result) self.old.files self.new.files }
     {
@@ -132,10 +132,10 @@ fn element(range: Range, index: i32) -> Result<u32, Stop>
 }
 
 // Behind how many cells a field begins.
-fn behind_fields(scene: Scene<'_>, whole: PasType, behind: u32, number: u32) -> Result<u32, Stop>
-    ensures cells { (fields : List types.Field) → types.fields_of (program_view scene.entry.program.now).types
+fn behind_fields(scene: &Scene<'_>, whole: PasType, behind: u32, number: u32) -> Result<u32, Stop>
+    ensures cells { (fields : List types.Field) → types.fields_of (program_view scene.now.program.now).types
         (type_view whole) ≡ Some fields
-        → IsCount (behind + sum_by (λ field. types.cells_of (program_view scene.entry.program.now).types field.type)
+        → IsCount (behind + sum_by (λ field. types.cells_of (program_view scene.now.program.now).types field.type)
         (take number fields)) result }
     ensures quiet { is_port_failed result ≡ false }
 {
@@ -149,9 +149,9 @@ fn behind_fields(scene: Scene<'_>, whole: PasType, behind: u32, number: u32) -> 
 }
 
 // How many cells fields have together, or the greatest number of 64 bits.
-fn cells_of_all(scene: Scene<'_>, fields: &[Field]) -> u64
-    ensures { counted (sum_by (λ field. types.cells_of (program_view scene.entry.program.now).types field.type)
-        (map (field_view scene.entry.program.now.spellings) fields.now)) ≡ result }
+fn cells_of_all(scene: &Scene<'_>, fields: &[Field]) -> u64
+    ensures { counted (sum_by (λ field. types.cells_of (program_view scene.now.program.now).types field.type)
+        (map (field_view scene.now.program.now.spellings) fields.now)) ≡ result }
 {
     let mut cells = 0u64;
     for field in fields {

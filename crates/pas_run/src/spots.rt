@@ -35,8 +35,8 @@ pub(crate) enum Spot {
 }
 
 // A number for a type, which must be in its range.
-pub(crate) fn fits(scene: Scene<'_>, pas_type: PasType, number: i32) -> Result<i32, Stop>
-    ensures number { Answers IsNumber (store.fits (program_view scene.entry.program.now).types (type_view pas_type)
+pub(crate) fn fits(scene: &Scene<'_>, pas_type: PasType, number: i32) -> Result<i32, Stop>
+    ensures number { Answers IsNumber (store.fits (program_view scene.now.program.now).types (type_view pas_type)
         (store.holds number)) result }
     ensures quiet { is_port_failed result ≡ false }
 {
@@ -50,14 +50,14 @@ impl<P: Port> Machine<P> {
     // The number that a place of an ordinal type holds.
     pub(crate) fn read_at(
         &mut self,
-        scene: Scene<'_>,
+        scene: &Scene<'_>,
         pas_type: PasType,
         spot: Spot,
     ) -> Result<i32, Stop>
         ensures does { (variables : List typed.Variable) (result' : Option types.PasType) (kinds : Kinds)
-            → IsScene scene.entry variables result' kinds → (place : meaning.Spot)
-            → IsSpot (program_view scene.entry.program.now) variables (type_view pas_type) spot place → (most : ℕ)
-            → Does most kinds kinds IsNumber (ask (meaning.read_at (program_view scene.entry.program.now).types
+            → IsScene scene.now variables result' kinds → (place : meaning.Spot)
+            → IsSpot (program_view scene.now.program.now) variables (type_view pas_type) spot place → (most : ℕ)
+            → Does most kinds kinds IsNumber (ask (meaning.read_at (program_view scene.now.program.now).types
             (type_view pas_type) place)) self.old self.new result }
         ensures cause { CountFailures (is_port_failed result) self.old.files self.new.files }
     {
@@ -68,13 +68,13 @@ impl<P: Port> Machine<P> {
     }
 
     // The number that the cell of a variable holds.
-    fn read_part(&mut self, scene: Scene<'_>, slot: Slot, behind: u32) -> Result<i32, Stop>
+    fn read_part(&mut self, scene: &Scene<'_>, slot: Slot, behind: u32) -> Result<i32, Stop>
         ensures does { (variables : List typed.Variable) (result' : Option types.PasType) (kinds : Kinds)
-            → IsScene scene.entry variables result' kinds
-            → IsLawfulSlot (program_view scene.entry.program.now) variables (slot_view slot) → (path : List ℕ)
-            → IsCell (program_view scene.entry.program.now) (slot_view slot) path behind → (type : types.PasType)
-            → IsOrdinal (program_view scene.entry.program.now).types type → (most : ℕ)
-            → Does most kinds kinds IsNumber (ask (meaning.read_at (program_view scene.entry.program.now).types type
+            → IsScene scene.now variables result' kinds
+            → IsLawfulSlot (program_view scene.now.program.now) variables (slot_view slot) → (path : List ℕ)
+            → IsCell (program_view scene.now.program.now) (slot_view slot) path behind → (type : types.PasType)
+            → IsOrdinal (program_view scene.now.program.now).types type → (most : ℕ)
+            → Does most kinds kinds IsNumber (ask (meaning.read_at (program_view scene.now.program.now).types type
             (meaning.part (slot_view slot) path))) self.old self.new result }
         ensures cause { CountFailures (is_port_failed result) self.old.files self.new.files }
     {
@@ -84,15 +84,15 @@ impl<P: Port> Machine<P> {
     // The number that the buffer of a file holds.
     pub(crate) fn read_window(
         &mut self,
-        scene: Scene<'_>,
+        scene: &Scene<'_>,
         slot: Slot,
         component: PasType,
     ) -> Result<i32, Stop>
         ensures does { (variables : List typed.Variable) (result' : Option types.PasType) (kinds : Kinds)
-            → IsScene scene.entry variables result' kinds
-            → IsFileSlot (program_view scene.entry.program.now) variables (slot_view slot)
+            → IsScene scene.now variables result' kinds
+            → IsFileSlot (program_view scene.now.program.now) variables (slot_view slot)
             → (type : types.PasType) (most : ℕ)
-            → Does most kinds kinds IsNumber (ask (meaning.read_at (program_view scene.entry.program.now).types type
+            → Does most kinds kinds IsNumber (ask (meaning.read_at (program_view scene.now.program.now).types type
             (meaning.window (slot_view slot) (type_view component)))) self.old self.new result }
         ensures cause { CountFailures (is_port_failed result) self.old.files self.new.files }
     {
@@ -104,15 +104,15 @@ impl<P: Port> Machine<P> {
     // v := a number, where v is this place of an ordinal type.
     pub(crate) fn store_at(
         &mut self,
-        scene: Scene<'_>,
+        scene: &Scene<'_>,
         pas_type: PasType,
         spot: Spot,
         number: i32,
     ) -> Result<(), Stop>
         ensures does { (variables : List typed.Variable) (result' : Option types.PasType) (kinds : Kinds)
-            → IsScene scene.entry variables result' kinds → (place : meaning.Spot)
-            → IsSpot (program_view scene.entry.program.now) variables (type_view pas_type) spot place → (most : ℕ)
-            → Does most kinds kinds Any (meaning.store_at (program_view scene.entry.program.now).types
+            → IsScene scene.now variables result' kinds → (place : meaning.Spot)
+            → IsSpot (program_view scene.now.program.now) variables (type_view pas_type) spot place → (most : ℕ)
+            → Does most kinds kinds Any (meaning.store_at (program_view scene.now.program.now).types
             (type_view pas_type) place (store.holds number)) self.old self.new result }
         ensures cause { CountFailures (is_port_failed result) self.old.files self.new.files }
     {
@@ -125,17 +125,17 @@ impl<P: Port> Machine<P> {
     // The cell of a variable gets a number, which must be in the range of this type.
     fn store_part(
         &mut self,
-        scene: Scene<'_>,
+        scene: &Scene<'_>,
         pas_type: PasType,
         slot: Slot,
         behind: u32,
         number: i32,
     ) -> Result<(), Stop>
         ensures does { (variables : List typed.Variable) (result' : Option types.PasType) (kinds : Kinds)
-            → IsScene scene.entry variables result' kinds
-            → IsLawfulSlot (program_view scene.entry.program.now) variables (slot_view slot) → (path : List ℕ)
-            → IsCell (program_view scene.entry.program.now) (slot_view slot) path behind → (most : ℕ)
-            → Does most kinds kinds Any (meaning.store_at (program_view scene.entry.program.now).types
+            → IsScene scene.now variables result' kinds
+            → IsLawfulSlot (program_view scene.now.program.now) variables (slot_view slot) → (path : List ℕ)
+            → IsCell (program_view scene.now.program.now) (slot_view slot) path behind → (most : ℕ)
+            → Does most kinds kinds Any (meaning.store_at (program_view scene.now.program.now).types
             (type_view pas_type) (meaning.part (slot_view slot) path) (store.holds number)) self.old self.new result }
         ensures cause { CountFailures (is_port_failed result) self.old.files self.new.files }
     {
@@ -147,16 +147,16 @@ impl<P: Port> Machine<P> {
     // The buffer of a file gets a number, which must be in the range of its components.
     pub(crate) fn store_window(
         &mut self,
-        scene: Scene<'_>,
+        scene: &Scene<'_>,
         slot: Slot,
         component: PasType,
         number: i32,
     ) -> Result<(), Stop>
         ensures does { (variables : List typed.Variable) (result' : Option types.PasType) (kinds : Kinds)
-            → IsScene scene.entry variables result' kinds
-            → IsFileSlot (program_view scene.entry.program.now) variables (slot_view slot)
+            → IsScene scene.now variables result' kinds
+            → IsFileSlot (program_view scene.now.program.now) variables (slot_view slot)
             → (type : types.PasType) (most : ℕ)
-            → Does most kinds kinds Any (meaning.store_at (program_view scene.entry.program.now).types type
+            → Does most kinds kinds Any (meaning.store_at (program_view scene.now.program.now).types type
             (meaning.window (slot_view slot) (type_view component)) (store.holds number)) self.old self.new result }
         ensures cause { CountFailures (is_port_failed result) self.old.files self.new.files }
     {
@@ -167,8 +167,8 @@ impl<P: Port> Machine<P> {
 }
 
 // A number for the buffer of a file of components of this type.
-fn byte_for(scene: Scene<'_>, component: PasType, number: i32) -> Result<u8, Stop>
-    ensures byte { Answers Same (then_answer (store.fits (program_view scene.entry.program.now).types
+fn byte_for(scene: &Scene<'_>, component: PasType, number: i32) -> Result<u8, Stop>
+    ensures byte { Answers Same (then_answer (store.fits (program_view scene.now.program.now).types
         (type_view component) (store.holds number)) (operands.byte_of OUT_OF_RANGE)) result }
     ensures quiet { is_port_failed result ≡ false }
 {

@@ -37,11 +37,11 @@ impl<P: Port> Machine<P> {
     #[cycle(running)]
     pub(crate) fn statement(
         &mut self,
-        scene: Scene<'_>,
+        scene: &Scene<'_>,
         statement: &Statement,
         levels: u32,
     ) -> Result<Flow, Stop>
-        ensures does { Runs scene.entry (statement_view scene.entry.program.now.spellings statement.now) self.old
+        ensures does { Runs scene.now (statement_view scene.now.program.now.spellings statement.now) self.old
             self.new result }
         ensures cause { CountFailures (is_port_failed result) self.old.files self.new.files }
     {
@@ -99,12 +99,12 @@ impl<P: Port> Machine<P> {
     #[cycle(running)]
     pub(crate) fn store(
         &mut self,
-        scene: Scene<'_>,
+        scene: &Scene<'_>,
         place: &Place,
         number: i32,
         levels: u32,
     ) -> Result<(), Stop>
-        ensures does { Stores scene.entry (place_view place.now) number self.old self.new result }
+        ensures does { Stores scene.now (place_view place.now) number self.old self.new result }
         ensures cause { CountFailures (is_port_failed result) self.old.files self.new.files }
     {
         let spot = self.spot_at(scene, place, levels)?;
@@ -115,12 +115,12 @@ impl<P: Port> Machine<P> {
     #[cycle(running)]
     fn assign(
         &mut self,
-        scene: Scene<'_>,
+        scene: &Scene<'_>,
         place: &Place,
         right: &Value,
         levels: u32,
     ) -> Result<(), Stop>
-        ensures does { Assigns scene.entry (place_view place.now) (value_view right.now) self.old self.new result }
+        ensures does { Assigns scene.now (place_view place.now) (value_view right.now) self.old self.new result }
         ensures cause { CountFailures (is_port_failed result) self.old.files self.new.files }
     {
         match scene.program.types.range_of(place.pas_type()) {
@@ -133,12 +133,12 @@ impl<P: Port> Machine<P> {
     #[cycle(running)]
     fn assign_number(
         &mut self,
-        scene: Scene<'_>,
+        scene: &Scene<'_>,
         place: &Place,
         right: &Value,
         levels: u32,
     ) -> Result<(), Stop>
-        ensures does { AssignsNumber scene.entry (place_view place.now) (value_view right.now) self.old self.new
+        ensures does { AssignsNumber scene.now (place_view place.now) (value_view right.now) self.old self.new
             result }
         ensures cause { CountFailures (is_port_failed result) self.old.files self.new.files }
     {
@@ -150,12 +150,12 @@ impl<P: Port> Machine<P> {
     #[cycle(running)]
     fn set_result(
         &mut self,
-        scene: Scene<'_>,
+        scene: &Scene<'_>,
         pas_type: PasType,
         right: &Value,
         levels: u32,
     ) -> Result<(), Stop>
-        ensures does { (cell : ℕ) → SetsResult scene.entry cell (type_view pas_type) (value_view right.now) self.old
+        ensures does { (cell : ℕ) → SetsResult scene.now cell (type_view pas_type) (value_view right.now) self.old
             self.new result }
         ensures cause { CountFailures (is_port_failed result) self.old.files self.new.files }
     {
@@ -166,9 +166,9 @@ impl<P: Port> Machine<P> {
     }
 
     // The cell behind the variables of the function that runs gets a number.
-    fn set_result_cell(&mut self, scene: Scene<'_>, number: i32)
+    fn set_result_cell(&mut self, scene: &Scene<'_>, number: i32)
         ensures does { (variables : List typed.Variable) (result' : Option types.PasType) (kinds : Kinds)
-            → IsScene scene.entry variables result' kinds → (type : types.PasType) → result' ≡ Some type
+            → IsScene scene.now variables result' kinds → (type : types.PasType) → result' ≡ Some type
             → (most : ℕ) (datum : store.Datum) → IsShaped one_cell datum → store.number_in datum ≡ Some number
             → Does most kinds kinds Any (change (meaning.with_result (length variables) datum)) self.old self.new
             (Ok (tt {0})) }
@@ -182,8 +182,8 @@ impl<P: Port> Machine<P> {
     }
 
     // A step of a file.
-    fn file_step(&mut self, scene: Scene<'_>, step: FileStep, place: &Place) -> Result<(), Stop>
-        ensures does { Steps scene.entry (file_step_view step) (place_view place.now) self.old self.new result }
+    fn file_step(&mut self, scene: &Scene<'_>, step: FileStep, place: &Place) -> Result<(), Stop>
+        ensures does { Steps scene.now (file_step_view step) (place_view place.now) self.old self.new result }
         ensures cause { CountFailures (is_port_failed result) self.old.files self.new.files }
     {
         let slot = file_variable(place)?;
@@ -193,11 +193,11 @@ impl<P: Port> Machine<P> {
     // A step of the file that a variable is.
     pub(crate) fn slot_step(
         &mut self,
-        scene: Scene<'_>,
+        scene: &Scene<'_>,
         step: FileStep,
         slot: Slot,
     ) -> Result<(), Stop>
-        ensures does { StepsSlot scene.entry (file_step_view step) (slot_view slot) self.old self.new result }
+        ensures does { StepsSlot scene.now (file_step_view step) (slot_view slot) self.old self.new result }
         ensures cause { CountFailures (is_port_failed result) self.old.files self.new.files }
     {
         let file = self.file_of(scene, slot)?;
@@ -221,8 +221,8 @@ impl<P: Port> Machine<P> {
 
     // The run halts with the status that a value is.
     #[cycle(running)]
-    fn halt(&mut self, scene: Scene<'_>, status: &Value, levels: u32) -> Result<Flow, Stop>
-        ensures does { Runs scene.entry (typed.halts (value_view status.now)) self.old self.new result }
+    fn halt(&mut self, scene: &Scene<'_>, status: &Value, levels: u32) -> Result<Flow, Stop>
+        ensures does { Runs scene.now (typed.halts (value_view status.now)) self.old self.new result }
         ensures cause { CountFailures (is_port_failed result) self.old.files self.new.files }
     {
         let found = self.number(scene, status, levels)?;
@@ -234,13 +234,13 @@ impl<P: Port> Machine<P> {
     #[cycle(running)]
     fn branch(
         &mut self,
-        scene: Scene<'_>,
+        scene: &Scene<'_>,
         test: &Value,
         first: &Statement,
         levels: u32,
     ) -> Result<Flow, Stop>
-        ensures does { Runs scene.entry (typed.if_then (value_view test.now)
-            (statement_view scene.entry.program.now.spellings first.now)) self.old self.new result }
+        ensures does { Runs scene.now (typed.if_then (value_view test.now)
+            (statement_view scene.now.program.now.spellings first.now)) self.old self.new result }
         ensures cause { CountFailures (is_port_failed result) self.old.files self.new.files }
     {
         let holds = self.truth(scene, test, levels)?;
@@ -255,15 +255,15 @@ impl<P: Port> Machine<P> {
     #[cycle(running)]
     fn choice(
         &mut self,
-        scene: Scene<'_>,
+        scene: &Scene<'_>,
         test: &Value,
         first: &Statement,
         second: &Statement,
         levels: u32,
     ) -> Result<Flow, Stop>
-        ensures does { Runs scene.entry (typed.if_else (value_view test.now)
-            (statement_view scene.entry.program.now.spellings first.now)
-            (statement_view scene.entry.program.now.spellings second.now)) self.old self.new result }
+        ensures does { Runs scene.now (typed.if_else (value_view test.now)
+            (statement_view scene.now.program.now.spellings first.now)
+            (statement_view scene.now.program.now.spellings second.now)) self.old self.new result }
         ensures cause { CountFailures (is_port_failed result) self.old.files self.new.files }
     {
         let holds = self.truth(scene, test, levels)?;
@@ -278,13 +278,13 @@ impl<P: Port> Machine<P> {
     #[cycle(running)]
     fn case(
         &mut self,
-        scene: Scene<'_>,
+        scene: &Scene<'_>,
         selector: &Value,
         arms: &Arms,
         levels: u32,
     ) -> Result<Flow, Stop>
-        ensures does { Runs scene.entry (typed.case (value_view selector.now)
-            (arms_view scene.entry.program.now.spellings arms.now)) self.old self.new result }
+        ensures does { Runs scene.now (typed.case (value_view selector.now)
+            (arms_view scene.now.program.now.spellings arms.now)) self.old self.new result }
         ensures cause { CountFailures (is_port_failed result) self.old.files self.new.files }
     {
         let found = self.number(scene, selector, levels)?;
@@ -298,15 +298,15 @@ impl<P: Port> Machine<P> {
     #[cycle(running)]
     fn case_others(
         &mut self,
-        scene: Scene<'_>,
+        scene: &Scene<'_>,
         selector: &Value,
         arms: &Arms,
         others: &Statement,
         levels: u32,
     ) -> Result<Flow, Stop>
-        ensures does { Runs scene.entry (typed.case_others (value_view selector.now)
-            (arms_view scene.entry.program.now.spellings arms.now)
-            (statement_view scene.entry.program.now.spellings others.now)) self.old self.new result }
+        ensures does { Runs scene.now (typed.case_others (value_view selector.now)
+            (arms_view scene.now.program.now.spellings arms.now)
+            (statement_view scene.now.program.now.spellings others.now)) self.old self.new result }
         ensures cause { CountFailures (is_port_failed result) self.old.files self.new.files }
     {
         let found = self.number(scene, selector, levels)?;

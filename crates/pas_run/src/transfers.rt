@@ -42,12 +42,12 @@ impl<P: Port> Machine<P> {
     #[cycle(running)]
     pub(crate) fn reads(
         &mut self,
-        scene: Scene<'_>,
+        scene: &Scene<'_>,
         place: &Place,
         places: &Items<Place>,
         levels: u32,
     ) -> Result<(), Stop>
-        ensures does { Reads scene.entry (place_view place.now) (map place_view places.now) self.old self.new result }
+        ensures does { Reads scene.now (place_view place.now) (map place_view places.now) self.old self.new result }
         ensures cause { CountFailures (is_port_failed result) self.old.files self.new.files }
     {
         let slot = file_variable(place)?;
@@ -64,16 +64,16 @@ impl<P: Port> Machine<P> {
     #[cycle(running)]
     fn read_items(
         &mut self,
-        scene: Scene<'_>,
+        scene: &Scene<'_>,
         component: PasType,
         slot: Slot,
         places: &[Place],
         levels: u32,
     ) -> Result<(), Stop>
-        ensures does { RunsBy scene.entry (λ variables result'.
-            IsFileSlot (program_view scene.entry.program.now) variables (slot_view slot)
-            × All (IsLawfulTarget (program_view scene.entry.program.now) variables) (map place_view places.now)) Any
-            (λ most. reads_of (program_view scene.entry.program.now) most (type_view component) (slot_view slot)
+        ensures does { RunsBy scene.now (λ variables result'.
+            IsFileSlot (program_view scene.now.program.now) variables (slot_view slot)
+            × All (IsLawfulTarget (program_view scene.now.program.now) variables) (map place_view places.now)) Any
+            (λ most. reads_of (program_view scene.now.program.now) most (type_view component) (slot_view slot)
             (map place_view places.now)) self.old self.new result }
         ensures cause { CountFailures (is_port_failed result) self.old.files self.new.files }
     {
@@ -87,16 +87,16 @@ impl<P: Port> Machine<P> {
     #[cycle(running)]
     fn read_item(
         &mut self,
-        scene: Scene<'_>,
+        scene: &Scene<'_>,
         component: PasType,
         slot: Slot,
         place: &Place,
         levels: u32,
     ) -> Result<(), Stop>
-        ensures does { RunsBy scene.entry (λ variables result'.
-            IsFileSlot (program_view scene.entry.program.now) variables (slot_view slot)
-            × IsLawfulTarget (program_view scene.entry.program.now) variables (place_view place.now)) Any
-            (λ most. read_item_of (program_view scene.entry.program.now) most (type_view component) (slot_view slot)
+        ensures does { RunsBy scene.now (λ variables result'.
+            IsFileSlot (program_view scene.now.program.now) variables (slot_view slot)
+            × IsLawfulTarget (program_view scene.now.program.now) variables (place_view place.now)) Any
+            (λ most. read_item_of (program_view scene.now.program.now) most (type_view component) (slot_view slot)
             (place_view place.now)) self.old self.new result }
         ensures cause { CountFailures (is_port_failed result) self.old.files self.new.files }
     {
@@ -109,12 +109,12 @@ impl<P: Port> Machine<P> {
     #[cycle(running)]
     pub(crate) fn writes_bytes(
         &mut self,
-        scene: Scene<'_>,
+        scene: &Scene<'_>,
         place: &Place,
         items: &Items<Value>,
         levels: u32,
     ) -> Result<(), Stop>
-        ensures does { WritesBytes scene.entry (place_view place.now) (map value_view items.now) self.old self.new
+        ensures does { WritesBytes scene.now (place_view place.now) (map value_view items.now) self.old self.new
             result }
         ensures cause { CountFailures (is_port_failed result) self.old.files self.new.files }
     {
@@ -132,16 +132,16 @@ impl<P: Port> Machine<P> {
     #[cycle(running)]
     fn write_bytes(
         &mut self,
-        scene: Scene<'_>,
+        scene: &Scene<'_>,
         component: PasType,
         slot: Slot,
         items: &[Value],
         levels: u32,
     ) -> Result<(), Stop>
-        ensures does { RunsBy scene.entry (λ variables result'.
-            IsFileSlot (program_view scene.entry.program.now) variables (slot_view slot)
-            × All (IsLawfulNumber (program_view scene.entry.program.now) variables) (map value_view items.now)) Any
-            (λ most. bytes_of (program_view scene.entry.program.now) most (type_view component) (slot_view slot)
+        ensures does { RunsBy scene.now (λ variables result'.
+            IsFileSlot (program_view scene.now.program.now) variables (slot_view slot)
+            × All (IsLawfulNumber (program_view scene.now.program.now) variables) (map value_view items.now)) Any
+            (λ most. bytes_of (program_view scene.now.program.now) most (type_view component) (slot_view slot)
             (map value_view items.now)) self.old self.new result }
         ensures cause { CountFailures (is_port_failed result) self.old.files self.new.files }
     {
@@ -155,16 +155,16 @@ impl<P: Port> Machine<P> {
     #[cycle(running)]
     fn write_byte(
         &mut self,
-        scene: Scene<'_>,
+        scene: &Scene<'_>,
         component: PasType,
         slot: Slot,
         item: &Value,
         levels: u32,
     ) -> Result<(), Stop>
-        ensures does { RunsBy scene.entry (λ variables result'.
-            IsFileSlot (program_view scene.entry.program.now) variables (slot_view slot)
-            × IsLawfulNumber (program_view scene.entry.program.now) variables (value_view item.now)) Any
-            (λ most. write_byte_of (program_view scene.entry.program.now) most (type_view component) (slot_view slot)
+        ensures does { RunsBy scene.now (λ variables result'.
+            IsFileSlot (program_view scene.now.program.now) variables (slot_view slot)
+            × IsLawfulNumber (program_view scene.now.program.now) variables (value_view item.now)) Any
+            (λ most. write_byte_of (program_view scene.now.program.now) most (type_view component) (slot_view slot)
             (value_view item.now)) self.old self.new result }
         ensures cause { CountFailures (is_port_failed result) self.old.files self.new.files }
     {
@@ -177,13 +177,13 @@ impl<P: Port> Machine<P> {
     #[cycle(running)]
     pub(crate) fn writes(
         &mut self,
-        scene: Scene<'_>,
+        scene: &Scene<'_>,
         place: &Place,
         items: &Items<Item>,
         levels: u32,
     ) -> Result<(), Stop>
-        ensures does { Writes scene.entry (place_view place.now)
-            (map (item_view scene.entry.program.now.spellings) items.now) self.old self.new result }
+        ensures does { Writes scene.now (place_view place.now)
+            (map (item_view scene.now.program.now.spellings) items.now) self.old self.new result }
         ensures cause { CountFailures (is_port_failed result) self.old.files self.new.files }
     {
         let slot = file_variable(place)?;
@@ -194,17 +194,17 @@ impl<P: Port> Machine<P> {
     #[cycle(running)]
     fn write_items(
         &mut self,
-        scene: Scene<'_>,
+        scene: &Scene<'_>,
         slot: Slot,
         items: &[Item],
         levels: u32,
     ) -> Result<(), Stop>
-        ensures does { RunsBy scene.entry (λ variables result'.
-            IsFileSlot (program_view scene.entry.program.now) variables (slot_view slot)
-            × All (IsLawfulItem (program_view scene.entry.program.now) variables)
-            (map (item_view scene.entry.program.now.spellings) items.now)) Any
-            (λ most. writes_of (program_view scene.entry.program.now) most (slot_view slot)
-            (map (item_view scene.entry.program.now.spellings) items.now)) self.old self.new result }
+        ensures does { RunsBy scene.now (λ variables result'.
+            IsFileSlot (program_view scene.now.program.now) variables (slot_view slot)
+            × All (IsLawfulItem (program_view scene.now.program.now) variables)
+            (map (item_view scene.now.program.now.spellings) items.now)) Any
+            (λ most. writes_of (program_view scene.now.program.now) most (slot_view slot)
+            (map (item_view scene.now.program.now.spellings) items.now)) self.old self.new result }
         ensures cause { CountFailures (is_port_failed result) self.old.files self.new.files }
     {
         for item in items {
@@ -217,12 +217,12 @@ impl<P: Port> Machine<P> {
     #[cycle(running)]
     fn write_item(
         &mut self,
-        scene: Scene<'_>,
+        scene: &Scene<'_>,
         slot: Slot,
         item: &Item,
         levels: u32,
     ) -> Result<(), Stop>
-        ensures does { WritesItem scene.entry (slot_view slot) (item_view scene.entry.program.now.spellings item.now)
+        ensures does { WritesItem scene.now (slot_view slot) (item_view scene.now.program.now.spellings item.now)
             self.old self.new result }
         ensures cause { CountFailures (is_port_failed result) self.old.files self.new.files }
     {
@@ -237,13 +237,13 @@ impl<P: Port> Machine<P> {
     #[cycle(running)]
     fn write_number_item(
         &mut self,
-        scene: Scene<'_>,
+        scene: &Scene<'_>,
         slot: Slot,
         value: &Value,
         given: &Option<Value>,
         levels: u32,
     ) -> Result<(), Stop>
-        ensures does { WritesItem scene.entry (slot_view slot)
+        ensures does { WritesItem scene.now (slot_view slot)
             (typed.number_item (value_view value.now) (option_map value_view given.now)) self.old self.new result }
         ensures cause { CountFailures (is_port_failed result) self.old.files self.new.files }
     {
@@ -257,13 +257,13 @@ impl<P: Port> Machine<P> {
     #[cycle(running)]
     fn write_char_item(
         &mut self,
-        scene: Scene<'_>,
+        scene: &Scene<'_>,
         slot: Slot,
         value: &Value,
         given: &Option<Value>,
         levels: u32,
     ) -> Result<(), Stop>
-        ensures does { WritesItem scene.entry (slot_view slot)
+        ensures does { WritesItem scene.now (slot_view slot)
             (typed.char_item (value_view value.now) (option_map value_view given.now)) self.old self.new result }
         ensures cause { CountFailures (is_port_failed result) self.old.files self.new.files }
     {
@@ -275,10 +275,10 @@ impl<P: Port> Machine<P> {
 
     // The byte that a value is.
     #[cycle(running)]
-    fn byte(&mut self, scene: Scene<'_>, value: &Value, levels: u32) -> Result<u8, Stop>
-        ensures does { RunsBy scene.entry (λ variables result'. IsLawfulNumber (program_view scene.entry.program.now)
+    fn byte(&mut self, scene: &Scene<'_>, value: &Value, levels: u32) -> Result<u8, Stop>
+        ensures does { RunsBy scene.now (λ variables result'. IsLawfulNumber (program_view scene.now.program.now)
             variables (value_view value.now)) Same (λ most. operands.operand (operands.byte_of OUT_OF_RANGE)
-            (value_of (program_view scene.entry.program.now) most (value_view value.now))) self.old self.new result }
+            (value_of (program_view scene.now.program.now) most (value_view value.now))) self.old self.new result }
         ensures cause { CountFailures (is_port_failed result) self.old.files self.new.files }
     {
         let number = self.number(scene, value, levels)?;
@@ -289,14 +289,14 @@ impl<P: Port> Machine<P> {
     #[cycle(running)]
     fn write_text_item(
         &mut self,
-        scene: Scene<'_>,
+        scene: &Scene<'_>,
         slot: Slot,
         text: Span,
         given: &Option<Value>,
         levels: u32,
     ) -> Result<(), Stop>
-        ensures does { WritesItem scene.entry (slot_view slot)
-            (typed.string_item (undoubled (spelled_in scene.entry.program.now.spellings text))
+        ensures does { WritesItem scene.now (slot_view slot)
+            (typed.string_item (undoubled (spelled_in scene.now.program.now.spellings text))
             (option_map value_view given.now)) self.old self.new result }
         ensures cause { CountFailures (is_port_failed result) self.old.files self.new.files }
     {
@@ -311,14 +311,14 @@ impl<P: Port> Machine<P> {
     #[cycle(running)]
     fn width_or(
         &mut self,
-        scene: Scene<'_>,
+        scene: &Scene<'_>,
         width: i32,
         given: &Option<Value>,
         levels: u32,
     ) -> Result<i32, Stop>
-        ensures does { (own : ℕ) → pos own ≡ width → RunsBy scene.entry (λ variables result'.
-            IfSome (option_map value_view given.now) (IsLawfulNumber (program_view scene.entry.program.now) variables))
-            Same (λ most. width_of (program_view scene.entry.program.now) most own (option_map value_view given.now))
+        ensures does { (own : ℕ) → pos own ≡ width → RunsBy scene.now (λ variables result'.
+            IfSome (option_map value_view given.now) (IsLawfulNumber (program_view scene.now.program.now) variables))
+            Same (λ most. width_of (program_view scene.now.program.now) most own (option_map value_view given.now))
             self.old self.new result }
         ensures cause { CountFailures (is_port_failed result) self.old.files self.new.files }
     {
@@ -332,12 +332,12 @@ impl<P: Port> Machine<P> {
     #[cycle(running)]
     pub(crate) fn reads_line(
         &mut self,
-        scene: Scene<'_>,
+        scene: &Scene<'_>,
         place: &Place,
         places: &Items<Place>,
         levels: u32,
     ) -> Result<(), Stop>
-        ensures does { ReadsLine scene.entry (place_view place.now) (map place_view places.now) self.old self.new
+        ensures does { ReadsLine scene.now (place_view place.now) (map place_view places.now) self.old self.new
             result }
         ensures cause { CountFailures (is_port_failed result) self.old.files self.new.files }
     {
@@ -355,16 +355,16 @@ impl<P: Port> Machine<P> {
     #[cycle(running)]
     fn read_line(
         &mut self,
-        scene: Scene<'_>,
+        scene: &Scene<'_>,
         component: PasType,
         slot: Slot,
         places: &[Place],
         levels: u32,
     ) -> Result<(), Stop>
-        ensures does { RunsBy scene.entry (λ variables result'.
-            IsFileSlot (program_view scene.entry.program.now) variables (slot_view slot)
-            × All (IsLawfulTarget (program_view scene.entry.program.now) variables) (map place_view places.now)) Any
-            (λ most. read_line_of (program_view scene.entry.program.now) most (type_view component) (slot_view slot)
+        ensures does { RunsBy scene.now (λ variables result'.
+            IsFileSlot (program_view scene.now.program.now) variables (slot_view slot)
+            × All (IsLawfulTarget (program_view scene.now.program.now) variables) (map place_view places.now)) Any
+            (λ most. read_line_of (program_view scene.now.program.now) most (type_view component) (slot_view slot)
             (map place_view places.now)) self.old self.new result }
         ensures cause { CountFailures (is_port_failed result) self.old.files self.new.files }
     {
@@ -373,9 +373,9 @@ impl<P: Port> Machine<P> {
     }
 
     // The rest of a line of the text that a variable is, is passed.
-    fn pass_line(&mut self, scene: Scene<'_>, slot: Slot) -> Result<(), Stop>
-        ensures does { RunsBy scene.entry (λ variables result'.
-            IsFileSlot (program_view scene.entry.program.now) variables (slot_view slot)) Any
+    fn pass_line(&mut self, scene: &Scene<'_>, slot: Slot) -> Result<(), Stop>
+        ensures does { RunsBy scene.now (λ variables result'.
+            IsFileSlot (program_view scene.now.program.now) variables (slot_view slot)) Any
             (λ most. on_file (slot_view slot) (λ number. change_file number files.readln)) self.old self.new result }
         ensures cause { CountFailures (is_port_failed result) self.old.files self.new.files }
     {
@@ -404,13 +404,13 @@ impl<P: Port> Machine<P> {
     #[cycle(running)]
     pub(crate) fn writes_line(
         &mut self,
-        scene: Scene<'_>,
+        scene: &Scene<'_>,
         place: &Place,
         items: &Items<Item>,
         levels: u32,
     ) -> Result<(), Stop>
-        ensures does { WritesLine scene.entry (place_view place.now)
-            (map (item_view scene.entry.program.now.spellings) items.now) self.old self.new result }
+        ensures does { WritesLine scene.now (place_view place.now)
+            (map (item_view scene.now.program.now.spellings) items.now) self.old self.new result }
         ensures cause { CountFailures (is_port_failed result) self.old.files self.new.files }
     {
         let slot = file_variable(place)?;
@@ -421,17 +421,17 @@ impl<P: Port> Machine<P> {
     #[cycle(running)]
     fn write_line(
         &mut self,
-        scene: Scene<'_>,
+        scene: &Scene<'_>,
         slot: Slot,
         items: &[Item],
         levels: u32,
     ) -> Result<(), Stop>
-        ensures does { RunsBy scene.entry (λ variables result'.
-            IsFileSlot (program_view scene.entry.program.now) variables (slot_view slot)
-            × All (IsLawfulItem (program_view scene.entry.program.now) variables)
-            (map (item_view scene.entry.program.now.spellings) items.now)) Any
-            (λ most. write_line_of (program_view scene.entry.program.now) most (slot_view slot)
-            (map (item_view scene.entry.program.now.spellings) items.now)) self.old self.new result }
+        ensures does { RunsBy scene.now (λ variables result'.
+            IsFileSlot (program_view scene.now.program.now) variables (slot_view slot)
+            × All (IsLawfulItem (program_view scene.now.program.now) variables)
+            (map (item_view scene.now.program.now.spellings) items.now)) Any
+            (λ most. write_line_of (program_view scene.now.program.now) most (slot_view slot)
+            (map (item_view scene.now.program.now.spellings) items.now)) self.old self.new result }
         ensures cause { CountFailures (is_port_failed result) self.old.files self.new.files }
     {
         self.write_items(scene, slot, items, levels)?;
@@ -439,9 +439,9 @@ impl<P: Port> Machine<P> {
     }
 
     // A line ends of the text that a variable is.
-    fn end_line(&mut self, scene: Scene<'_>, slot: Slot) -> Result<(), Stop>
-        ensures does { RunsBy scene.entry (λ variables result'.
-            IsFileSlot (program_view scene.entry.program.now) variables (slot_view slot)) Any
+    fn end_line(&mut self, scene: &Scene<'_>, slot: Slot) -> Result<(), Stop>
+        ensures does { RunsBy scene.now (λ variables result'.
+            IsFileSlot (program_view scene.now.program.now) variables (slot_view slot)) Any
             (λ most. on_file (slot_view slot) (λ number. append number files.writeln)) self.old self.new result }
         ensures cause { CountFailures (is_port_failed result) self.old.files self.new.files }
     {
@@ -451,8 +451,8 @@ impl<P: Port> Machine<P> {
 }
 
 // The type of the components of a file.
-fn components_of(scene: Scene<'_>, file: &Place) -> PasType
-    ensures { type_view result ≡ meaning.components_of (program_view scene.entry.program.now).types
+fn components_of(scene: &Scene<'_>, file: &Place) -> PasType
+    ensures { type_view result ≡ meaning.components_of (program_view scene.now.program.now).types
         (place_view file.now) }
 {
     match scene.program.types.component_of(file.pas_type()) {
@@ -462,8 +462,8 @@ fn components_of(scene: Scene<'_>, file: &Place) -> PasType
 }
 
 // The spelling of a string of the program, in which each quote stands twice.
-fn spelled<'a>(scene: Scene<'a>, text: Span) -> &'a [u8]
-    ensures { result.now ≡ spelled_in scene.entry.program.now.spellings text }
+fn spelled<'a>(scene: &Scene<'a>, text: Span) -> &'a [u8]
+    ensures { result.now ≡ spelled_in scene.now.program.now.spellings text }
 {
     let bytes = scene.program.spellings.bytes();
     let first = bytes.len().min(text.first as usize);

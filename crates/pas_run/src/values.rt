@@ -29,11 +29,11 @@ impl<P: Port> Machine<P> {
     #[cycle(running)]
     pub(crate) fn number(
         &mut self,
-        scene: Scene<'_>,
+        scene: &Scene<'_>,
         value: &Value,
         levels: u32,
     ) -> Result<i32, Stop>
-        ensures does { Evaluates scene.entry (value_view value.now) self.old self.new result }
+        ensures does { Evaluates scene.now (value_view value.now) self.old self.new result }
         ensures cause { CountFailures (is_port_failed result) self.old.files self.new.files }
     {
         let taken = stack::of_value(value);
@@ -70,11 +70,11 @@ impl<P: Port> Machine<P> {
     #[cycle(running)]
     pub(crate) fn truth(
         &mut self,
-        scene: Scene<'_>,
+        scene: &Scene<'_>,
         value: &Value,
         levels: u32,
     ) -> Result<bool, Stop>
-        ensures does { Decides scene.entry (value_view value.now) self.old self.new result }
+        ensures does { Decides scene.now (value_view value.now) self.old self.new result }
         ensures cause { CountFailures (is_port_failed result) self.old.files self.new.files }
     {
         let found = self.number(scene, value, levels)?;
@@ -83,8 +83,8 @@ impl<P: Port> Machine<P> {
 
     // A boolean expression as a number.
     #[cycle(running)]
-    fn boolean(&mut self, scene: Scene<'_>, value: &Value, levels: u32) -> Result<i32, Stop>
-        ensures does { IsBoolean scene.entry (value_view value.now) self.old self.new result }
+    fn boolean(&mut self, scene: &Scene<'_>, value: &Value, levels: u32) -> Result<i32, Stop>
+        ensures does { IsBoolean scene.now (value_view value.now) self.old self.new result }
         ensures cause { CountFailures (is_port_failed result) self.old.files self.new.files }
     {
         let found = self.number(scene, value, levels)?;
@@ -95,12 +95,12 @@ impl<P: Port> Machine<P> {
     #[cycle(running)]
     fn applied(
         &mut self,
-        scene: Scene<'_>,
+        scene: &Scene<'_>,
         function: Function,
         argument: &Value,
         levels: u32,
     ) -> Result<i32, Stop>
-        ensures does { Evaluates scene.entry (typed.applied (function_view function) (value_view argument.now))
+        ensures does { Evaluates scene.now (typed.applied (function_view function) (value_view argument.now))
             self.old self.new result }
         ensures cause { CountFailures (is_port_failed result) self.old.files self.new.files }
     {
@@ -112,12 +112,12 @@ impl<P: Port> Machine<P> {
     #[cycle(running)]
     fn signed_value(
         &mut self,
-        scene: Scene<'_>,
+        scene: &Scene<'_>,
         sign: Sign,
         argument: &Value,
         levels: u32,
     ) -> Result<i32, Stop>
-        ensures does { Evaluates scene.entry (typed.signed sign (value_view argument.now)) self.old self.new result }
+        ensures does { Evaluates scene.now (typed.signed sign (value_view argument.now)) self.old self.new result }
         ensures cause { CountFailures (is_port_failed result) self.old.files self.new.files }
     {
         let found = self.number(scene, argument, levels)?;
@@ -126,8 +126,8 @@ impl<P: Port> Machine<P> {
 
     // `not` of a value.
     #[cycle(running)]
-    fn negated(&mut self, scene: Scene<'_>, argument: &Value, levels: u32) -> Result<i32, Stop>
-        ensures does { Evaluates scene.entry (typed.negated (value_view argument.now)) self.old self.new result }
+    fn negated(&mut self, scene: &Scene<'_>, argument: &Value, levels: u32) -> Result<i32, Stop>
+        ensures does { Evaluates scene.now (typed.negated (value_view argument.now)) self.old self.new result }
         ensures cause { CountFailures (is_port_failed result) self.old.files self.new.files }
     {
         let found = self.truth(scene, argument, levels)?;
@@ -138,13 +138,13 @@ impl<P: Port> Machine<P> {
     #[cycle(running)]
     fn product(
         &mut self,
-        scene: Scene<'_>,
+        scene: &Scene<'_>,
         left: &Value,
         operator: Multiplying,
         right: &Value,
         levels: u32,
     ) -> Result<i32, Stop>
-        ensures does { Evaluates scene.entry (typed.product (value_view left.now) operator (value_view right.now))
+        ensures does { Evaluates scene.now (typed.product (value_view left.now) operator (value_view right.now))
             self.old self.new result }
         ensures cause { CountFailures (is_port_failed result) self.old.files self.new.files }
     {
@@ -160,13 +160,13 @@ impl<P: Port> Machine<P> {
     #[cycle(running)]
     fn multiplication(
         &mut self,
-        scene: Scene<'_>,
+        scene: &Scene<'_>,
         left: &Value,
         operator: Multiplying,
         right: &Value,
         levels: u32,
     ) -> Result<i32, Stop>
-        ensures does { Works scene.entry (spec.multiplied operator) (value_view left.now) (value_view right.now)
+        ensures does { Works scene.now (spec.multiplied operator) (value_view left.now) (value_view right.now)
             self.old self.new result }
         ensures cause { CountFailures (is_port_failed result) self.old.files self.new.files }
     {
@@ -179,12 +179,12 @@ impl<P: Port> Machine<P> {
     #[cycle(running)]
     fn conjunction(
         &mut self,
-        scene: Scene<'_>,
+        scene: &Scene<'_>,
         left: &Value,
         right: &Value,
         levels: u32,
     ) -> Result<i32, Stop>
-        ensures does { Evaluates scene.entry
+        ensures does { Evaluates scene.now
             (typed.product (value_view left.now) Multiplying.And (value_view right.now)) self.old self.new result }
         ensures cause { CountFailures (is_port_failed result) self.old.files self.new.files }
     {
@@ -200,13 +200,13 @@ impl<P: Port> Machine<P> {
     #[cycle(running)]
     fn addition(
         &mut self,
-        scene: Scene<'_>,
+        scene: &Scene<'_>,
         left: &Value,
         operator: Adding,
         right: &Value,
         levels: u32,
     ) -> Result<i32, Stop>
-        ensures does { Evaluates scene.entry (typed.addition (value_view left.now) operator (value_view right.now))
+        ensures does { Evaluates scene.now (typed.addition (value_view left.now) operator (value_view right.now))
             self.old self.new result }
         ensures cause { CountFailures (is_port_failed result) self.old.files self.new.files }
     {
@@ -220,13 +220,13 @@ impl<P: Port> Machine<P> {
     #[cycle(running)]
     fn sum(
         &mut self,
-        scene: Scene<'_>,
+        scene: &Scene<'_>,
         left: &Value,
         operator: Adding,
         right: &Value,
         levels: u32,
     ) -> Result<i32, Stop>
-        ensures does { Works scene.entry (spec.added operator) (value_view left.now) (value_view right.now)
+        ensures does { Works scene.now (spec.added operator) (value_view left.now) (value_view right.now)
             self.old self.new result }
         ensures cause { CountFailures (is_port_failed result) self.old.files self.new.files }
     {
@@ -239,12 +239,12 @@ impl<P: Port> Machine<P> {
     #[cycle(running)]
     fn disjunction(
         &mut self,
-        scene: Scene<'_>,
+        scene: &Scene<'_>,
         left: &Value,
         right: &Value,
         levels: u32,
     ) -> Result<i32, Stop>
-        ensures does { Evaluates scene.entry (typed.addition (value_view left.now) Adding.Or (value_view right.now))
+        ensures does { Evaluates scene.now (typed.addition (value_view left.now) Adding.Or (value_view right.now))
             self.old self.new result }
         ensures cause { CountFailures (is_port_failed result) self.old.files self.new.files }
     {
@@ -260,13 +260,13 @@ impl<P: Port> Machine<P> {
     #[cycle(running)]
     fn comparison(
         &mut self,
-        scene: Scene<'_>,
+        scene: &Scene<'_>,
         left: &Value,
         relation: Relation,
         right: &Value,
         levels: u32,
     ) -> Result<i32, Stop>
-        ensures does { Works scene.entry (λ first second. fine (spec.truth (spec.compared relation first second)))
+        ensures does { Works scene.now (λ first second. fine (spec.truth (spec.compared relation first second)))
             (value_view left.now) (value_view right.now) self.old self.new result }
         ensures cause { CountFailures (is_port_failed result) self.old.files self.new.files }
     {
@@ -276,8 +276,8 @@ impl<P: Port> Machine<P> {
     }
 
     // What a test of a file answers, as a number.
-    fn tested(&mut self, scene: Scene<'_>, test: FileTest, place: &Place) -> Result<i32, Stop>
-        ensures does { Evaluates scene.entry (typed.tested (file_test_view test) (place_view place.now)) self.old
+    fn tested(&mut self, scene: &Scene<'_>, test: FileTest, place: &Place) -> Result<i32, Stop>
+        ensures does { Evaluates scene.now (typed.tested (file_test_view test) (place_view place.now)) self.old
             self.new result }
         ensures cause { CountFailures (is_port_failed result) self.old.files self.new.files }
     {
@@ -302,8 +302,8 @@ impl<P: Port> Machine<P> {
 
     // What a place of an ordinal type holds.
     #[cycle(running)]
-    fn read(&mut self, scene: Scene<'_>, place: &Place, levels: u32) -> Result<i32, Stop>
-        ensures does { Evaluates scene.entry (typed.read (place_view place.now)) self.old self.new result }
+    fn read(&mut self, scene: &Scene<'_>, place: &Place, levels: u32) -> Result<i32, Stop>
+        ensures does { Evaluates scene.now (typed.read (place_view place.now)) self.old self.new result }
         ensures cause { CountFailures (is_port_failed result) self.old.files self.new.files }
     {
         let spot = self.spot_at(scene, place, levels)?;
