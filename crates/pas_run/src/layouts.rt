@@ -36,6 +36,7 @@ pub(crate) struct Scene<'a> {
 
 impl Layout {
     // How many cells stand before the variable of this number.
+    #[inline(always)]
     pub(crate) fn offset_of(&self, number: u32) -> u32
         ensures { result ≡ slice_index_or self.now.offsets number 0 }
     {
@@ -48,6 +49,7 @@ impl Layout {
 
 impl<'a> Scene<'a> {
     // The layout of the variables of the program, or of the routine.
+    #[inline(always)]
     pub(crate) fn layout_of(&self, home: Home) -> &'a Layout
         ensures { result.now ≡ layout_by (home_view home) self.now.layouts.now.globals self.now.locals.now }
     {

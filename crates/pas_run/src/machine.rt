@@ -58,6 +58,7 @@ impl<P: Port> Model for Machine<P> {
 
 impl<P: Port> Machine<P> {
     // The number of the activation that runs.
+    #[inline(always)]
     pub(crate) fn top(&self) -> u32
         ensures { result ≡ length self.now.activations - 1 }
     {
@@ -65,6 +66,7 @@ impl<P: Port> Machine<P> {
     }
 
     // What the cell holds that stands so many cells behind an address.
+    #[inline(always)]
     pub(crate) fn cell(&self, at: Address, behind: u32) -> Cell
         ensures { result ≡ cell_in (behind_by behind at) self.now.activations }
     {
@@ -78,6 +80,7 @@ impl<P: Port> Machine<P> {
     }
 
     // Stores something in the cell that stands so many cells behind an address.
+    #[inline(always)]
     pub(crate) fn set_cell(&mut self, at: Address, behind: u32, cell: Cell)
         ensures { self.new
             ≡ record self.old { activations = with_cell (behind_by behind at) cell self.old.activations } }
@@ -106,6 +109,7 @@ impl<P: Port> Machine<P> {
     }
 
     // Stores something in a cell of an activation.
+    #[inline(always)]
     fn set_in(&mut self, activation: usize, offset: usize, cell: Cell)
         ensures { self.new ≡ record self.old {
           activations = with_cell (record { activation = activation; offset = offset }) cell self.old.activations;

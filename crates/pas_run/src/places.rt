@@ -27,6 +27,7 @@ use wb_ports::Port;
 
 impl<P: Port> Machine<P> {
     // Where the cells of a variable begin.
+    #[inline(always)]
     fn own_address(&self, scene: &Scene<'_>, slot: Slot) -> Address
         ensures { result ≡ own_address scene.now.layouts.now.globals scene.now.locals.now
             (length self.now.activations - 1) (home_view slot.home) slot.number }
@@ -42,6 +43,7 @@ impl<P: Port> Machine<P> {
     }
 
     // Where a variable is: a variable parameter tells it in its cell.
+    #[inline(always)]
     pub(crate) fn home_of(&self, scene: &Scene<'_>, slot: Slot) -> Address
         ensures { (variables : List typed.Variable) (result' : Option types.PasType) (kinds : Kinds)
             → IsScene scene.now variables result' kinds
@@ -50,10 +52,14 @@ impl<P: Port> Machine<P> {
             → result ≡ address_of kinds (store.home_of (slot_view slot) run.store) }
     {
         let own = self.own_address(scene, slot);
-        home_in(slot.mode, own, self.cell(own, 0))
+        match slot.mode {
+            Mode::ByName => named(own, self.cell(own, 0)),
+            Mode::Declared | Mode::ByValue => own,
+        }
     }
 
     // The number that the cell of a variable holds behind so many of its cells.
+    #[inline(always)]
     pub(crate) fn number_at(&self, scene: &Scene<'_>, slot: Slot, behind: u32) -> Result<i32, Stop>
         ensures number { (variables : List typed.Variable) (result' : Option types.PasType) (kinds : Kinds)
             → IsScene scene.now variables result' kinds
@@ -81,6 +87,7 @@ impl<P: Port> Machine<P> {
     }
 
     // The cell of a variable behind so many of its cells gets a number, or nothing that is defined.
+    #[inline(always)]
     pub(crate) fn set_number(
         &mut self,
         scene: &Scene<'_>,
@@ -103,6 +110,7 @@ impl<P: Port> Machine<P> {
 }
 
 // The cell of a variable that is a number, or undefined.
+#[inline(always)]
 fn cell_of(number: Option<i32>) -> Cell
     ensures { result ≡ number_cell number }
 {
@@ -113,6 +121,7 @@ fn cell_of(number: Option<i32>) -> Cell
 }
 
 // The number that a cell of a variable holds.
+#[inline(always)]
 fn number_in(cell: Cell) -> Result<i32, Stop>
     ensures number { (datum : store.Datum) → cell ≡ number_cell (store.number_in datum)
         → Answers Same (store.number_of datum) result }
@@ -124,12 +133,13 @@ fn number_in(cell: Cell) -> Result<i32, Stop>
     }
 }
 
-// Where a variable is that has its own cells here, of which the first one holds this.
-fn home_in(mode: Mode, own: Address, cell: Cell) -> Address
-    ensures { result ≡ spec.home_in (mode_view mode) own cell }
+// Where the variable of a variable parameter is, which has its own cell here that holds this.
+#[inline(always)]
+fn named(own: Address, cell: Cell) -> Address
+    ensures { result ≡ spec.home_in store.ByName own cell }
 {
-    match (mode, cell) {
-        (Mode::ByName, Cell::Refers(address)) => address,
+    match cell {
+        Cell::Refers(address) => address,
         _ => own,
     }
 }

@@ -24,6 +24,7 @@ use wb_ports::Port;
 impl<P: Port> Machine<P> {
     // Where a place is.
     #[cycle(running)]
+    #[inline(always)]
     pub(crate) fn spot_at(
         &mut self,
         scene: &Scene<'_>,

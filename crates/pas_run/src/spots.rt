@@ -35,6 +35,7 @@ pub(crate) enum Spot {
 }
 
 // A number for a type, which must be in its range.
+#[inline(always)]
 pub(crate) fn fits(scene: &Scene<'_>, pas_type: PasType, number: i32) -> Result<i32, Stop>
     ensures number { Answers IsNumber (store.fits (program_view scene.now.program.now).types (type_view pas_type)
         (store.holds number)) result }
@@ -48,6 +49,7 @@ pub(crate) fn fits(scene: &Scene<'_>, pas_type: PasType, number: i32) -> Result<
 
 impl<P: Port> Machine<P> {
     // The number that a place of an ordinal type holds.
+    #[inline(always)]
     pub(crate) fn read_at(
         &mut self,
         scene: &Scene<'_>,
@@ -68,7 +70,8 @@ impl<P: Port> Machine<P> {
     }
 
     // The number that the cell of a variable holds.
-    fn read_part(&mut self, scene: &Scene<'_>, slot: Slot, behind: u32) -> Result<i32, Stop>
+    #[inline(always)]
+    pub(crate) fn read_part(&mut self, scene: &Scene<'_>, slot: Slot, behind: u32) -> Result<i32, Stop>
         ensures does { (variables : List typed.Variable) (result' : Option types.PasType) (kinds : Kinds)
             → IsScene scene.now variables result' kinds
             → IsLawfulSlot (program_view scene.now.program.now) variables (slot_view slot) → (path : List ℕ)
@@ -82,6 +85,7 @@ impl<P: Port> Machine<P> {
     }
 
     // The number that the buffer of a file holds.
+    #[inline(never)]
     pub(crate) fn read_window(
         &mut self,
         scene: &Scene<'_>,
@@ -102,6 +106,7 @@ impl<P: Port> Machine<P> {
     }
 
     // v := a number, where v is this place of an ordinal type.
+    #[inline(always)]
     pub(crate) fn store_at(
         &mut self,
         scene: &Scene<'_>,
@@ -123,7 +128,8 @@ impl<P: Port> Machine<P> {
     }
 
     // The cell of a variable gets a number, which must be in the range of this type.
-    fn store_part(
+    #[inline(always)]
+    pub(crate) fn store_part(
         &mut self,
         scene: &Scene<'_>,
         pas_type: PasType,
@@ -145,6 +151,7 @@ impl<P: Port> Machine<P> {
     }
 
     // The buffer of a file gets a number, which must be in the range of its components.
+    #[inline(never)]
     pub(crate) fn store_window(
         &mut self,
         scene: &Scene<'_>,

@@ -2,7 +2,6 @@
 //! from it to the next one inside it take in the compiled program. docs/DECISIONS.md says how they were measured.
 ghost use Rattle.std.specs.Prelude.{◌≤◌};
 
-use pas_syntax::{Adding, Multiplying};
 use pas_typed::typed::{Statement, Value};
 
 // The bytes of the stack that a run may take: 6 MiB of the 8 that the machine has.
@@ -37,7 +36,6 @@ pub(crate) fn of_value(value: &Value) -> u32
     match value {
         Value::Read(_) => 608,
         Value::Call(_) => 1_008,
-        Value::Product(_, Multiplying::And, _) | Value::Addition(_, Adding::Or, _) => 432,
-        _ => 320,
+        _ => 432,
     }
 }

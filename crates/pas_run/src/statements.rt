@@ -107,6 +107,9 @@ impl<P: Port> Machine<P> {
         ensures does { Stores scene.now (place_view place.now) number self.old self.new result }
         ensures cause { CountFailures (is_port_failed result) self.old.files self.new.files }
     {
+        if place.parts.is_empty() {
+            return self.store_part(scene, place.slot.pas_type, place.slot, 0, number);
+        }
         let spot = self.spot_at(scene, place, levels)?;
         self.store_at(scene, place.pas_type(), spot, number)
     }

@@ -25,9 +25,29 @@ use pas_typed::types::{Base, PasType};
 use wb_ports::Port;
 
 impl<P: Port> Machine<P> {
-    // The number that an expression is. No level that is left is want of memory.
+    // The number that an expression is. A constant, and what a whole variable holds, is found at once.
     #[cycle(running)]
     pub(crate) fn number(
+        &mut self,
+        scene: &Scene<'_>,
+        value: &Value,
+        levels: u32,
+    ) -> Result<i32, Stop>
+        ensures does { Evaluates scene.now (value_view value.now) self.old self.new result }
+        ensures cause { CountFailures (is_port_failed result) self.old.files self.new.files }
+    {
+        match value {
+            Value::Constant(_, found) => within_maxint(*found),
+            Value::Read(place) if place.get().parts.is_empty() => {
+                self.read_part(scene, place.get().slot, 0)
+            }
+            _ => self.calculated(scene, value, levels),
+        }
+    }
+
+    // The number that an expression is. No level that is left is want of memory.
+    #[cycle(running)]
+    fn calculated(
         &mut self,
         scene: &Scene<'_>,
         value: &Value,
@@ -302,6 +322,7 @@ impl<P: Port> Machine<P> {
 
     // What a place of an ordinal type holds.
     #[cycle(running)]
+    #[inline(always)]
     fn read(&mut self, scene: &Scene<'_>, place: &Place, levels: u32) -> Result<i32, Stop>
         ensures does { Evaluates scene.now (typed.read (place_view place.now)) self.old self.new result }
         ensures cause { CountFailures (is_port_failed result) self.old.files self.new.files }
