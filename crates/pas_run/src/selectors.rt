@@ -54,6 +54,9 @@ impl<P: Port> Machine<P> {
         ensures does { LocatesPart scene.now place.now.slot (place_view place.now) self.old self.new result }
         ensures cause { CountFailures (is_port_failed result) self.old.files self.new.files }
     {
+        if let [Part::Element(range, element, index)] = place.parts.as_slice() {
+            return self.behind_elements(scene, *element, 0, *range, index, levels);
+        }
         let mut behind = 0;
         let mut whole = place.slot.pas_type;
         for part in place.parts.as_slice() {
@@ -108,7 +111,7 @@ impl<P: Port> Machine<P> {
 }
 
 // The variable that the file is of which a place is the buffer.
-fn file_below(place: &Place) -> Result<Slot, Stop>
+pub(crate) fn file_below(place: &Place) -> Result<Slot, Stop>
     ensures variable { (file : typed.Place) (type : types.PasType) → place_view place.now ≡ typed.buffer file type
         → Answers IsSlot (meaning.file_variable file) result }
     ensures quiet { is_port_failed result ≡ false }

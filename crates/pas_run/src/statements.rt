@@ -24,6 +24,7 @@ use crate::cells::{Address, Cell};
 use crate::ends::{Flow, Stop, next_behind};
 use crate::layouts::Scene;
 use crate::machine::Machine;
+use crate::selectors::file_below;
 use crate::spots::fits;
 use crate::stack;
 use crate::values::file_variable;
@@ -110,8 +111,12 @@ impl<P: Port> Machine<P> {
         if place.parts.is_empty() {
             return self.store_part(scene, place.slot.pas_type, place.slot, 0, number);
         }
-        let spot = self.spot_at(scene, place, levels)?;
-        self.store_at(scene, place.pas_type(), spot, number)
+        if place.is_buffer() {
+            self.store_window(scene, file_below(place)?, place.pas_type(), number)
+        } else {
+            let behind = self.part_at(scene, place, levels)?;
+            self.store_part(scene, place.pas_type(), place.slot, behind, number)
+        }
     }
 
     // v := e.

@@ -16,6 +16,7 @@ use crate::arithmetic::{
 use crate::ends::Stop;
 use crate::layouts::Scene;
 use crate::machine::Machine;
+use crate::selectors::file_below;
 use crate::spots::fits;
 use crate::stack;
 use pas_meaning::WRONG_MODE;
@@ -27,6 +28,7 @@ use wb_ports::Port;
 impl<P: Port> Machine<P> {
     // The number that an expression is. A constant, and what a whole variable holds, is found at once.
     #[cycle(running)]
+    #[inline(always)]
     pub(crate) fn number(
         &mut self,
         scene: &Scene<'_>,
@@ -47,6 +49,7 @@ impl<P: Port> Machine<P> {
 
     // The number that an expression is. No level that is left is want of memory.
     #[cycle(running)]
+    #[inline(never)]
     fn calculated(
         &mut self,
         scene: &Scene<'_>,
@@ -327,8 +330,12 @@ impl<P: Port> Machine<P> {
         ensures does { Evaluates scene.now (typed.read (place_view place.now)) self.old self.new result }
         ensures cause { CountFailures (is_port_failed result) self.old.files self.new.files }
     {
-        let spot = self.spot_at(scene, place, levels)?;
-        self.read_at(scene, place.pas_type(), spot)
+        if place.is_buffer() {
+            self.read_window(scene, file_below(place)?, place.pas_type())
+        } else {
+            let behind = self.part_at(scene, place, levels)?;
+            self.read_part(scene, place.slot, behind)
+        }
     }
 }
 
