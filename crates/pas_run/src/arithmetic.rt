@@ -16,6 +16,7 @@ use pas_typed::typed::Function;
 use pas_typed::types::{Base, Range};
 
 // A number in a range, or an error of this kind.
+#[inline(always)]
 pub(crate) fn in_range(kind: u8, range: Range, number: i32) -> Result<i32, Stop>
     ensures number { Answers Same (store.in_range kind (range_view range) number) result }
     ensures quiet { is_port_failed result ≡ false }
@@ -29,6 +30,7 @@ pub(crate) fn in_range(kind: u8, range: Range, number: i32) -> Result<i32, Stop>
 }
 
 // An integer, or an error past maxint.
+#[inline(always)]
 pub(crate) fn within_maxint(value: i64) -> Result<i32, Stop>
     ensures { Answers Same (spec.within_maxint value) result }
 {
@@ -131,6 +133,7 @@ pub(crate) fn function_at(function: Function, number: i32) -> Result<i32, Stop>
 }
 
 // A boolean as a number.
+#[inline(always)]
 pub(crate) fn number_of(truth: bool) -> i32
     ensures { result ≡ spec.truth truth }
 {
@@ -138,6 +141,7 @@ pub(crate) fn number_of(truth: bool) -> i32
 }
 
 // A number as a boolean.
+#[inline(always)]
 pub(crate) fn truth_of(number: i32) -> Result<bool, Stop>
     ensures { Answers Same (operands.truth_of (store.holds number)) result }
 {

@@ -45,6 +45,7 @@ impl<P: Port> Machine<P> {
 
     // Behind how many cells of its variable a part begins, by its selectors one after another. A buffer is none.
     #[cycle(running)]
+    #[inline(always)]
     pub(crate) fn part_at(
         &mut self,
         scene: &Scene<'_>,
@@ -54,12 +55,28 @@ impl<P: Port> Machine<P> {
         ensures does { LocatesPart scene.now place.now.slot (place_view place.now) self.old self.new result }
         ensures cause { CountFailures (is_port_failed result) self.old.files self.new.files }
     {
-        if let [Part::Element(range, element, index)] = place.parts.as_slice() {
-            return self.behind_elements(scene, *element, 0, *range, index, levels);
+        match place.parts.as_slice() {
+            [] => Ok(0),
+            [Part::Element(range, element, index)] => {
+                self.behind_elements(scene, *element, 0, *range, index, levels)
+            }
+            parts => self.behind_parts(scene, place.slot.pas_type, parts, levels),
         }
+    }
+
+    // Behind how many cells of a variable of this type a part begins, by its selectors one after another.
+    #[cycle(running)]
+    #[inline(never)]
+    fn behind_parts(
+        &mut self,
+        scene: &Scene<'_>,
+        pas_type: PasType,
+        parts: &[Part],
+        levels: u32,
+    ) -> Result<u32, Stop> {
         let mut behind = 0;
-        let mut whole = place.slot.pas_type;
-        for part in place.parts.as_slice() {
+        let mut whole = pas_type;
+        for part in parts {
             behind = self.behind_part(scene, whole, behind, part, levels)?;
             whole = part.pas_type();
         }
@@ -90,6 +107,7 @@ impl<P: Port> Machine<P> {
 
     // Behind how many cells an element begins.
     #[cycle(running)]
+    #[inline(always)]
     fn behind_elements(
         &mut self,
         scene: &Scene<'_>,
@@ -111,6 +129,7 @@ impl<P: Port> Machine<P> {
 }
 
 // The variable that the file is of which a place is the buffer.
+#[inline(always)]
 pub(crate) fn file_below(place: &Place) -> Result<Slot, Stop>
     ensures variable { (file : typed.Place) (type : types.PasType) → place_view place.now ≡ typed.buffer file type
         → Answers IsSlot (meaning.file_variable file) result }
@@ -124,6 +143,7 @@ pub(crate) fn file_below(place: &Place) -> Result<Slot, Stop>
 }
 
 // The number of an element, by its index.
+#[inline(always)]
 fn element(range: Range, index: i32) -> Result<u32, Stop>
     ensures number { IsElement (operands.element (range_view range) (store.holds index)) result }
     ensures quiet { is_port_failed result ≡ false }
@@ -165,6 +185,7 @@ fn cells_of_all(scene: &Scene<'_>, fields: &[Field]) -> u64
 }
 
 // So many cells behind others, unless they are more than a machine has.
+#[inline(always)]
 pub(crate) fn behind_cells(behind: u32, cells: u64) -> Result<u32, Stop>
     ensures count { (exact : ℕ) → counted exact ≡ cells → IsCount (behind + exact) result }
     ensures quiet { is_port_failed result ≡ false }

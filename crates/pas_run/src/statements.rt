@@ -98,6 +98,7 @@ impl<P: Port> Machine<P> {
 
     // v := a number, where v is of an ordinal type.
     #[cycle(running)]
+    #[inline(always)]
     pub(crate) fn store(
         &mut self,
         scene: &Scene<'_>,
@@ -121,6 +122,7 @@ impl<P: Port> Machine<P> {
 
     // v := e.
     #[cycle(running)]
+    #[inline(always)]
     fn assign(
         &mut self,
         scene: &Scene<'_>,
@@ -139,6 +141,7 @@ impl<P: Port> Machine<P> {
 
     // The same where v is of an ordinal type: the value comes first, then the place.
     #[cycle(running)]
+    #[inline(always)]
     fn assign_number(
         &mut self,
         scene: &Scene<'_>,
@@ -156,6 +159,7 @@ impl<P: Port> Machine<P> {
 
     // A value becomes the result of the function that runs.
     #[cycle(running)]
+    #[inline(always)]
     fn set_result(
         &mut self,
         scene: &Scene<'_>,
@@ -174,6 +178,7 @@ impl<P: Port> Machine<P> {
     }
 
     // The cell behind the variables of the function that runs gets a number.
+    #[inline(always)]
     fn set_result_cell(&mut self, scene: &Scene<'_>, number: i32)
         ensures does { (variables : List typed.Variable) (result' : Option types.PasType) (kinds : Kinds)
             → IsScene scene.now variables result' kinds → (type : types.PasType) → result' ≡ Some type
@@ -240,6 +245,7 @@ impl<P: Port> Machine<P> {
 
     // `if` without `else`.
     #[cycle(running)]
+    #[inline(always)]
     fn branch(
         &mut self,
         scene: &Scene<'_>,
@@ -261,6 +267,7 @@ impl<P: Port> Machine<P> {
 
     // `if` with `else`.
     #[cycle(running)]
+    #[inline(always)]
     fn choice(
         &mut self,
         scene: &Scene<'_>,

@@ -91,6 +91,7 @@ impl<P: Port> Machine<P> {
 
     // The truth of a boolean expression.
     #[cycle(running)]
+    #[inline(always)]
     pub(crate) fn truth(
         &mut self,
         scene: &Scene<'_>,
@@ -106,6 +107,7 @@ impl<P: Port> Machine<P> {
 
     // A boolean expression as a number.
     #[cycle(running)]
+    #[inline(always)]
     fn boolean(&mut self, scene: &Scene<'_>, value: &Value, levels: u32) -> Result<i32, Stop>
         ensures does { IsBoolean scene.now (value_view value.now) self.old self.new result }
         ensures cause { CountFailures (is_port_failed result) self.old.files self.new.files }
