@@ -52,6 +52,7 @@ pub(crate) enum Turn {
 impl<P: Port> Machine<P> {
     // A compound, which catches the jumps to its list.
     #[cycle(running)]
+    #[inline(always)]
     pub(crate) fn compound(
         &mut self,
         scene: &Scene<'_>,
@@ -67,6 +68,7 @@ impl<P: Port> Machine<P> {
 
     // A list, which catches the jumps to its labels.
     #[cycle(running)]
+    #[inline(always)]
     fn list_caught(
         &mut self,
         scene: &Scene<'_>,
@@ -90,6 +92,7 @@ impl<P: Port> Machine<P> {
 
     // The statements of a list in order, or those from a label on.
     #[cycle(running)]
+    #[inline(always)]
     fn list(
         &mut self,
         scene: &Scene<'_>,
@@ -106,6 +109,7 @@ impl<P: Port> Machine<P> {
 
     // The statements of a list in order.
     #[cycle(running)]
+    #[inline(always)]
     fn in_order(&mut self, scene: &Scene<'_>, list: &[Labelled], levels: u32) -> Result<Flow, Stop>
         ensures does { RunsList scene.now None (statements_view scene.now.program.now.spellings list.now)
             self.old self.new result }
@@ -122,6 +126,7 @@ impl<P: Port> Machine<P> {
     }
 
     // Behind the list of a compound: a jump to one of its labels takes a step.
+    #[inline(always)]
     fn behind_list(&mut self, list: &[Labelled], flow: Flow) -> Result<Turn, Stop>
         ensures does { (spellings : List ℕ) (program : typed.TypedProgram) (kinds : Kinds) (around : typed.Statement)
             → IsTurn kinds (λ from most. statement_of program most (entry_by at start from) around)
@@ -568,6 +573,7 @@ fn has_label(list: &[Labelled], label: u32) -> bool
 }
 
 // A list from a label on, or all of it.
+#[inline(always)]
 fn list_from(list: &[Labelled], from: Option<u32>) -> &[Labelled]
     ensures { (spellings : List ℕ) → IsFrom from (statements_view spellings list.now)
         (statements_view spellings result.now) }

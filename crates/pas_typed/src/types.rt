@@ -239,6 +239,7 @@ impl Table {
     }
 
     /// The values of an ordinal type.
+    #[inline(always)]
     pub fn range_of(&self, pas_type: PasType) -> Option<Range>
         ensures { (spellings : List ℕ)
             → spec.range_of (table_view spellings self.now) (type_view pas_type) ≡ option_map range_view result }
