@@ -50,7 +50,10 @@ impl<P: Port> Machine<P> {
             → result ≡ address_of kinds (store.home_of (slot_view slot) run.store) }
     {
         let own = self.own_address(scene, slot);
-        home_in(slot.mode, own, self.cell(own, 0))
+        match slot.mode {
+            Mode::ByName => named_by(self.cell(own, 0), own),
+            Mode::Declared | Mode::ByValue => own,
+        }
     }
 
     // The number that the cell of a variable holds behind so many of its cells.
@@ -124,12 +127,12 @@ fn number_in(cell: Cell) -> Result<i32, Stop>
     }
 }
 
-// Where a variable is that has its own cells here, of which the first one holds this.
-fn home_in(mode: Mode, own: Address, cell: Cell) -> Address
-    ensures { result ≡ spec.home_in (mode_view mode) own cell }
+// Where the variable is that a variable parameter names, whose own cell here holds this.
+fn named_by(cell: Cell, own: Address) -> Address
+    ensures { result ≡ spec.home_in typed.by_name own cell }
 {
-    match (mode, cell) {
-        (Mode::ByName, Cell::Refers(address)) => address,
+    match cell {
+        Cell::Refers(address) => address,
         _ => own,
     }
 }
